@@ -1,0 +1,3 @@
+pub mod Iri
+pub mod Term
+pub mod Triple

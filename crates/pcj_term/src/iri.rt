@@ -1,0 +1,59 @@
+ghost use Rattle.std.specs.Prelude.{◌≡◌};
+ghost use Rattle.std.specs.List.{list_all};
+ghost use Rattle.pcj_term.specs.Iri.{is_letter, is_scheme_byte, is_iri_byte, ends_scheme, is_absolute, is_iri_text};
+
+/// Whether a byte is a letter of ASCII.
+pub fn is_letter(byte: u8) -> bool
+    ensures { result ≡ is_letter byte }
+{
+    byte.is_ascii_alphabetic()
+}
+
+/// Whether these are the bytes between the brackets of an IRI: it is absolute, its bytes are printable
+/// ASCII, and none of them is one that N-Triples forbids there (RDF 1.1 N-Triples, `IRIREF`).
+pub fn is_iri(bytes: &[u8]) -> bool
+    ensures { result ≡ is_iri_text bytes.now }
+{
+    has_iri_bytes_alone(bytes) && is_absolute(bytes)
+}
+
+fn has_iri_bytes_alone(bytes: &[u8]) -> bool
+    ensures { result ≡ list_all is_iri_byte bytes.now }
+{
+    bytes.iter().all(|byte| is_iri_byte(*byte))
+}
+
+fn is_iri_byte(byte: u8) -> bool
+    ensures { result ≡ is_iri_byte byte }
+{
+    byte.is_ascii_graphic() && !b"<>\"{}|^`\\".contains(&byte)
+}
+
+fn is_scheme_byte(byte: u8) -> bool
+    ensures { result ≡ is_scheme_byte byte }
+{
+    byte.is_ascii_alphanumeric() || byte == b'+' || byte == b'-' || byte == b'.'
+}
+
+fn is_absolute(bytes: &[u8]) -> bool
+    ensures { result ≡ is_absolute bytes.now }
+{
+    match bytes {
+        [] => false,
+        [first, rest @ ..] => is_letter(*first) && ends_scheme(rest),
+    }
+}
+
+fn ends_scheme(bytes: &[u8]) -> bool
+    ensures { result ≡ ends_scheme bytes.now }
+{
+    for byte in bytes {
+        if *byte == b':' {
+            return true;
+        }
+        if !is_scheme_byte(*byte) {
+            return false;
+        }
+    }
+    false
+}
