@@ -1,0 +1,5 @@
+pub mod Appended
+pub mod Causes
+pub mod Consumed
+pub mod Errors
+mod Given
