@@ -38,7 +38,7 @@ same_kind_refl Plain = refl
 same_kind_refl (Lang a) = (same_bytes-Decides a a).1 refl
 same_kind_refl (Typed a) = (same_bytes-Decides a a).1 refl
 
-same_term_true : (s t : Term) → same_term s t ≡ true → s ≡ t
+pub same_term_true : (s t : Term) → same_term s t ≡ true → s ≡ t
 same_term_true (Iri a) (Iri b) h = ap Iri ((same_bytes-Decides a b).0 h)
 same_term_true (Iri a) (Blank m b) h = cc
 same_term_true (Iri a) (Literal b l) h = cc
