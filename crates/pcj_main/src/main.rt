@@ -1,0 +1,65 @@
+//! The program `pcj`.
+//!
+//! `pcj replay` reads a script on standard input, carries out its commands one after the other, and
+//! writes their transcript on standard output. The work is all in the library's top call, which is
+//! generic over where the script comes from and where the transcript goes. This crate gives it the
+//! real ones, standard input and standard output, and the words of the command line.
+//!
+//! Both streams are read and written without a buffer of the program's own: the top call reads the
+//! script in large pieces and hands over each command's lines in one write, so that what is written
+//! stands before the next command begins. Nothing is left to flush when it ends, and an error of a
+//! stream is met by the call that had it.
+//!
+//! The statuses that the process ends with are those of the top call:
+//!
+//! | Status | What ended the run |
+//! |---|---|
+//! | 0 | the end of the script |
+//! | 2 | a line of the script that was refused, or words that are no command |
+//! | 3 | standard input, which failed |
+//! | 4 | standard output, which failed |
+//! | 5 | memory, which ran out |
+//!
+//! This crate adds two cases, both before the script is read. Where memory runs out while the words
+//! are collected, the status is 5 and nothing is written. A word that isn't UTF-8 is a word of no
+//! command: a line on standard error says so, and the run is that of no words at all, which writes
+//! the usage line and ends with 2.
+//!
+//! What standard input gives and standard output takes is outside every contract. The library's
+//! clauses speak of any source and any sink, and are proved there; what is proved here is that each
+//! call meets the library's conditions, and that the program ends.
+#![tactic(auto)]
+
+use pcj_io::{StdSink, StdSource};
+use pcj_replay::replay;
+use std::alloc::AllocError;
+use std::env;
+use std::env::Env;
+use std::io::ErrorKind;
+use std::process::ExitCode;
+
+/// The status where memory runs out before the script is read.
+const OUT_OF_MEMORY: u8 = 5;
+
+/// The words of the command line after the program's name. Where one of them isn't UTF-8, standard
+/// error is told so, and there are none, as the words are then no command: the status is 2.
+fn command_words(rt: &(impl Env + Eprint + AllocGlobal)) -> Result<Vec<String>, AllocError> {
+    match env::args(rt) {
+        Ok(words) => words.skip(1).collect(rt.alloc()),
+        Err(error) if error.kind() == ErrorKind::OutOfMemory => Err(AllocError),
+        Err(_) => {
+            // where standard error fails too, the usage line and the status still tell
+            let _ = eprintln!(rt; "pcj: an argument is not UTF-8");
+            Ok(Vec::new(rt.alloc()))
+        }
+    }
+}
+
+fn main(rt: HostRuntime) -> ExitCode {
+    let Ok(words) = command_words(&rt) else {
+        return ExitCode::from(OUT_OF_MEMORY);
+    };
+    let mut source = StdSource::new(rt.stdin());
+    let mut sink = StdSink::new(rt.stdout());
+    ExitCode::from(replay(rt.alloc(), &words, &mut source, &mut sink))
+}

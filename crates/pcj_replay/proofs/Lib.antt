@@ -1,0 +1,13 @@
+pub mod AnswerLaws
+pub mod ClientLaws
+pub mod FrontLaws
+pub mod InputLaws
+pub mod JoinLaws
+pub mod MatchingLaws
+pub mod OutcomeLaws
+pub mod QueryFrame
+pub mod QueryRead
+pub mod ReplyLaws
+pub mod Rows
+pub mod RunLaws
+pub mod ScriptLaws

@@ -1,0 +1,14 @@
+pub mod Front
+pub mod Input
+pub mod Item
+pub mod Lines
+pub mod Matching
+pub mod Name
+pub mod Opening
+pub mod Outcome
+pub mod Query
+pub mod Run
+pub mod Script
+pub mod Stop
+pub mod Transcript
+pub mod World

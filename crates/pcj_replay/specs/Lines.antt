@@ -1,0 +1,31 @@
+-- The lines of a transcript, each without its LF.
+use Rattle.std.specs.Prelude.{ℕ, List, [], ◌∷◌, ◌++◌, codes}
+use Rattle.std.specs.Fmt.{decimal}
+use Rattle.pcj_replay.specs.Script.{client_name}
+
+abbrev pub loaded_line : ℕ → ℕ → ℕ → List ℕ
+loaded_line client number count = client_name client ++ codes " load " ++ decimal number ++ codes " " ++ decimal count ++ codes " triples"
+
+abbrev pub committed_line : ℕ → ℕ → List ℕ
+committed_line client number = client_name client ++ codes " committed " ++ decimal number
+
+abbrev pub refused_line : ℕ → ℕ → ℕ → List ℕ
+refused_line client place kind = client_name client ++ codes " refused " ++ decimal place ++ codes " " ++ decimal kind
+
+abbrev pub registered_line : ℕ → ℕ → List ℕ → List ℕ
+registered_line client number name = client_name client ++ codes " register " ++ decimal number ++ codes " " ++ name
+
+abbrev pub taken_line : ℕ → List ℕ
+taken_line client = client_name client ++ codes " taken"
+
+abbrev pub no_query_line : List ℕ → List ℕ
+no_query_line name = codes "no query " ++ name
+
+abbrev pub rows_line : ℕ → List ℕ
+rows_line count = codes "rows " ++ decimal count
+
+abbrev pub script_line : ℕ → List ℕ
+script_line line = codes "script " ++ decimal line ++ codes " 0"
+
+abbrev pub usage_line : List ℕ
+usage_line = codes "usage: pcj replay | pcj big SEED N | pcj generate SEED N"
