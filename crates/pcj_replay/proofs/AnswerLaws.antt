@@ -1,11 +1,11 @@
 -- The lines that are found are those of the answer.
-use Rattle.std.proofs.Common.{◌≡◌, ℕ, zero, suc, ◌<◌, Bool, true, false, cond, List, [], ◌∷◌, ◌++◌, Option, Some, None, Ordering, refl, ap, sym, subst, ◌∙◌, length, arith, inl, inr}
-use Rattle.std.specs.Prelude.{◌⊎◌, ◌↔◌, if◌then◌else◌, nat_eq}
+use Rattle.std.proofs.Common.{◌≡◌, ℕ, Bool, true, false, cond, List, [], ◌∷◌, Option, Some, None, refl, ap, sym, subst, ◌∙◌, arith, inl, inr}
+use Rattle.std.specs.Prelude.{◌⊎◌, nat_eq}
 use Rattle.std.specs.List.{Contains, filter_map, cons_option, dedup}
 use Rattle.std.specs.List.Sorted.{IsStrictlySortedBy, IsPermutation, IsSorted}
-use Rattle.std.specs.Option.{option_map, option_and_then}
+use Rattle.std.specs.Option.{option_map}
 use Rattle.std.specs.Cmp.Lexicographic.{slice_cmp, pointwise, texts_ties}
-use Rattle.std.specs.Ordering.{nat_cmp, eq_by_cmp}
+use Rattle.std.specs.Ordering.{nat_cmp}
 use Rattle.std.proofs.lemmas.List.Elements.{Contains-append_cases, Contains-append_left, Contains-append_right, Contains-push_cases, Contains-push}
 use Rattle.std.proofs.lemmas.List.Kept.{Contains-dedup, Contains-from_dedup, IsStrictlySortedBy-dedup}
 use Rattle.std.proofs.lemmas.List.Sorted.{Contains-permutation, IsPermutation-sym}
@@ -14,9 +14,8 @@ use Rattle.std.proofs.lemmas.Bool.Decides.{Decides-eqb}
 use Rattle.std.proofs.lemmas.Cmp.{nat_list_cmp_total, nat_list_eq_equiv}
 use Rattle.pcj_term.specs.declared.term.Term.{Term}
 use Rattle.pcj_term.specs.declared.triple.Triple.{Triple}
-use Rattle.pcj_term.specs.Triple.{same_bytes}
 use Rattle.pcj_replay.specs.declared.query.Query.{Query}
-use Rattle.pcj_replay.specs.Query.{Mapping, Matches, Projects, Solution, Answer, AnswerLines, row_line}
+use Rattle.pcj_replay.specs.Query.{Mapping, Matches, Projects, Answer, AnswerLines, row_line}
 use Rattle.pcj_replay.specs.Matching.{binding, matches, row_of, line_for, lines_found}
 use Rattle.pcj_replay.proofs.MatchingLaws.{matches_true, matches_from, binding_is, row_of_some, row_of_from}
 

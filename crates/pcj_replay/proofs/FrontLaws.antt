@@ -1,11 +1,10 @@
 -- What a command's first line and the lines after it make.
-use Rattle.std.proofs.Common.{◌≡◌, ℕ, ◌+◌, ◌<◌, ◌≤◌, List, [], ◌∷◌, ◌++◌, map, length, take, slice_index_or, Bor, refl, ap, sym, subst, ◌∙◌, arith, add-one}
+use Rattle.std.proofs.Common.{◌≡◌, ℕ, ◌+◌, ◌<◌, ◌≤◌, List, [], ◌∷◌, ◌++◌, length, take, slice_index_or, Bor, refl, ap, sym, subst, ◌∙◌, arith, add-one}
 use Rattle.std.proofs.lemmas.List.{take_more, map-append, take-map, length-map}
 use Rattle.pcj_replay.specs.declared.command.Command.{Command}
-use Rattle.pcj_replay.specs.declared.front.Front.{Front}
 use Rattle.pcj_replay.specs.declared.front.Front.TheVariants.{Whole, Open}
 use Rattle.pcj_replay.specs.Name.{words_of}
-use Rattle.pcj_replay.specs.Script.{command_words, IsNamed, HasText, HasNoEnd, BodyLines, CommandLines, IsOpen, end_line}
+use Rattle.pcj_replay.specs.Script.{command_words, IsNamed, HasText, HasNoEnd, BodyLines, end_line}
 use Rattle.pcj_replay.specs.Front.{StandsAtFront, EndsFirstAt}
 use Rattle.pcj_replay.proofs.QueryFrame.{texts}
 

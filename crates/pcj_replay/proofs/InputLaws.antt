@@ -1,15 +1,14 @@
 -- A script that was read piece by piece.
-use Rattle.std.proofs.Common.{◌≡◌, ℕ, suc, ◌+◌, ◌-◌, ◌<◌, ◌≤◌, Bool, true, false, List, [], ◌∷◌, ◌++◌, Option, Some, None, refl, ap, sym, subst, ◌∙◌, length, take, arith, inl, inr, append-nil, length-append, Bor}
+use Rattle.std.proofs.Common.{◌≡◌, ℕ, suc, ◌-◌, ◌<◌, ◌≤◌, Bool, true, false, List, [], ◌++◌, Option, Some, None, refl, ap, sym, ◌∙◌, length, take, arith, inl, inr, append-nil, length-append, Bor}
 use Rattle.std.specs.Prelude.{nat_lt}
 use Rattle.std.proofs.lemmas.List.{take_all, take-append-le, take-map, length-map}
 use Rattle.std.proofs.lemmas.Bool.Decides.{leb_tells}
-use Rattle.std.proofs.lemmas.Bool.{false≢true}
 use Rattle.pcj_io.specs.Source.{Consumes, EndsWhereNothingIsLeft}
 use Rattle.pcj_replay.specs.declared.input.Input.{Input}
 use Rattle.pcj_replay.specs.declared.script.TheConstants.{SCRIPT_LIMIT}
 use Rattle.pcj_replay.specs.Script.{is_too_long, lines_of, readable_lines, all_but_last}
 use Rattle.pcj_replay.proofs.QueryFrame.{texts}
-use Rattle.pcj_replay.specs.Input.{Told, Holds, IsRead}
+use Rattle.pcj_replay.specs.Input.{Holds, IsRead}
 
 -- what a source gave so far, with its count of faults
 pub record HasGiven (left now : Option (List ℕ)) (before after : ℕ) (bytes : List ℕ) : Type 0 where

@@ -1,5 +1,5 @@
 -- Triples that are added one after another.
-use Rattle.std.proofs.Common.{◌≡◌, ℕ, Bool, true, false, cond, List, [], ◌∷◌, ◌++◌, refl, ap, sym, subst, ◌∙◌, arith, inl, inr, length}
+use Rattle.std.proofs.Common.{◌≡◌, Bool, true, false, cond, List, [], ◌∷◌, ◌++◌, refl, sym, subst, ◌∙◌, arith, inl, inr, length}
 use Rattle.std.specs.Prelude.{◌⊎◌, ◌↔◌, ◌||◌}
 use Rattle.std.specs.List.{Contains, list_any}
 use Rattle.std.proofs.lemmas.List.Elements.{Contains-append_left, Contains-append_right, Contains-push, Contains-push_cases}
@@ -8,7 +8,6 @@ use Rattle.pcj_term.specs.Triple.{same_triple}
 use Rattle.pcj_term.specs.contracts.triple.TriplePartialEq.TheImpl as triples
 use Rattle.pcj_term.proofs.Same.{same_triple_true}
 use Rattle.pcj_term.proofs.Derived.{inserted}
-use Rattle.pcj_replay.specs.Transcript.{Joins}
 use Rattle.pcj_replay.proofs.AnswerLaws.{here}
 
 any_contains : (t : Triple) (keys : List Triple) → list_any (same_triple t) keys ≡ true → Contains keys t

@@ -1,12 +1,9 @@
 -- How a pattern is matched agrees with what a match is.
-use Rattle.std.proofs.Common.{◌≡◌, ℕ, Bool, true, false, cond, List, [], ◌∷◌, ◌++◌, Option, Some, None, refl, ap, sym, subst, ◌∙◌}
-use Rattle.std.specs.Prelude.{◌&&◌, ◌||◌, if◌then◌else◌}
-use Rattle.std.specs.List.{AllZip}
+use Rattle.std.proofs.Common.{◌≡◌, ℕ, Bool, true, false, List, [], ◌∷◌, Option, Some, None, refl, ap, sym, subst, ◌∙◌}
+use Rattle.std.specs.Prelude.{◌&&◌, ◌||◌}
 use Rattle.std.specs.Option.{option_map, option_and_then}
-use Rattle.std.specs.Cmp.Lexicographic.{pointwise}
 use Rattle.std.proofs.lemmas.Slice.Eq.{slice_eq-Decides}
 use Rattle.std.proofs.lemmas.Bool.Decides.{Decides-eqb}
-use Rattle.std.specs.Prelude.{nat_eq}
 use Rattle.pcj_term.specs.declared.term.Term.{Term}
 use Rattle.pcj_term.specs.declared.triple.Triple.{Triple}
 use Rattle.pcj_term.specs.Triple.{same_bytes, same_term}
@@ -14,9 +11,8 @@ use Rattle.pcj_term.proofs.Same.{same_term_true, same_term_refl}
 use Rattle.pcj_replay.specs.declared.slot.Slot.{Slot}
 use Rattle.pcj_replay.specs.declared.slot.Slot.TheVariants.{Variable, Constant}
 use Rattle.pcj_replay.specs.declared.pattern.Pattern.{Pattern}
-use Rattle.pcj_replay.specs.declared.query.Query.{Query}
-use Rattle.pcj_replay.specs.Query.{Mapping, Stands, Matches, Projects, Answer, is_variable, occurs_in, row_line}
-use Rattle.pcj_replay.specs.Matching.{binding, is_bound_to, stands, matches, row_of, line_for}
+use Rattle.pcj_replay.specs.Query.{Mapping, Stands, Matches, Projects, is_variable, occurs_in}
+use Rattle.pcj_replay.specs.Matching.{binding, is_bound_to, stands, matches, row_of}
 
 both : (a b : Bool) → a && b ≡ true → (a ≡ true) × (b ≡ true)
 both true b h = (refl, h)

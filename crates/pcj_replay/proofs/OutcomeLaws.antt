@@ -1,5 +1,5 @@
 -- What the parts of a run make of the whole.
-use Rattle.std.proofs.Common.{◌≡◌, ◌≢◌, ℕ, ◌≤◌, Bool, true, false, List, [], ◌∷◌, ◌++◌, Option, Some, None, Result, Ok, Err, IfOk, OnErr, map, length, slice_index_or, refl, ap, sym, subst, ◌∙◌, arith, inl, inr}
+use Rattle.std.proofs.Common.{◌≡◌, ◌≢◌, ℕ, Bool, List, [], ◌∷◌, Option, Some, None, Result, Ok, Err, IfOk, OnErr, map, length, slice_index_or, refl, ap, sym, subst, ◌∙◌, arith, inl, inr}
 use Rattle.std.specs.Prelude.{◌⊎◌, ◌↔◌, IsTrue, nat_eq}
 use Rattle.std.specs.Cmp.Lexicographic.{pointwise}
 use Rattle.std.proofs.lemmas.Slice.Eq.{slice_eq-Decides}
@@ -16,9 +16,9 @@ use Rattle.pcj_replay.specs.declared.stop.Stop.TheVariants as stops
 use Rattle.pcj_replay.specs.Input.{Told}
 use Rattle.pcj_replay.specs.Lines.{script_line}
 use Rattle.pcj_replay.specs.Script.{IsScript, ended}
-use Rattle.pcj_replay.specs.Stop.{HasSinkCause, HasSourceCause}
-use Rattle.pcj_replay.specs.Run.{PrintsAll, PrintsRefusal, PrintsRefusalPart, PrintsPrefix, Concludes}
-use Rattle.pcj_replay.specs.Outcome.{Completes, Refuses, Interrupts, CutsShort, Replays, IsScriptOf, ShowsUsage, usage, outcome_of, status_of, stopped, HasCauses}
+use Rattle.pcj_replay.specs.Stop.{HasSinkCause}
+use Rattle.pcj_replay.specs.Run.{PrintsAll, PrintsPrefix, Concludes}
+use Rattle.pcj_replay.specs.Outcome.{Completes, Refuses, CutsShort, Replays, IsScriptOf, ShowsUsage, usage, outcome_of, status_of, HasCauses}
 
 -- after the whole transcript a part of the refusal's line
 pub refusal_part : (commands : List Command) (line : ℕ) (refused : Option ℕ) (old mid new : Option (List ℕ)) → refused ≡ Some line → PrintsAll commands old mid →

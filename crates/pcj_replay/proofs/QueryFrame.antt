@@ -1,5 +1,5 @@
 -- The words of a query's line, taken apart and put together.
-use Rattle.std.proofs.Common.{zero, suc, Bool, false, not, cond, ◌≡◌, ℕ, List, map, ◌+◌, ◌-◌, ◌<◌, ◌≤◌, length, [], ◌∷◌, ◌++◌, slice_index_or, Bor, refl, ap, sym, subst, ◌∙◌, arith, take, drop, length-append, true, nat_eq}
+use Rattle.std.proofs.Common.{zero, suc, Bool, false, not, cond, ◌≡◌, ℕ, List, map, ◌+◌, ◌-◌, ◌<◌, ◌≤◌, length, [], ◌∷◌, slice_index_or, Bor, refl, ap, sym, ◌∙◌, arith, take, drop, length-append, true, nat_eq}
 use Rattle.std.specs.Cmp.Lexicographic.{pointwise}
 use Rattle.std.proofs.Math.Seq.{take-append_seam, drop-append_seam}
 use Rattle.std.proofs.lemmas.List.{take_all, take-map, drop-map, length-map}

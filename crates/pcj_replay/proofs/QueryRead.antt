@@ -1,7 +1,6 @@
 -- What the parts of a query text say of the queries that it may be the text of.
-use Rattle.std.proofs.Common.{◌≡◌, ◌≢◌, ℕ, List, [], ◌∷◌, ◌++◌, map, sym, ap, ◌∙◌, true, false, arith, refl}
+use Rattle.std.proofs.Common.{◌≡◌, ◌≢◌, ℕ, List, [], ◌∷◌, ◌++◌, map, sym, ap, ◌∙◌, true, arith, refl}
 use Rattle.std.proofs.lemmas.List.{append_cancel_right}
-use Rattle.pcj_term.specs.declared.term.Term.{Term}
 use Rattle.pcj_term.specs.declared.term.Term.TheVariants.{Iri, Blank, Literal}
 use Rattle.pcj_term.specs.Term.{bracketed}
 use Rattle.pcj_replay.specs.declared.slot.Slot.{Slot}
@@ -9,7 +8,7 @@ use Rattle.pcj_replay.specs.declared.slot.Slot.TheVariants.{Variable, Constant}
 use Rattle.pcj_replay.specs.declared.pattern.Pattern.{Pattern}
 use Rattle.pcj_replay.specs.declared.query.Query.{Query}
 use Rattle.pcj_replay.specs.Name.{words_of, variable_word}
-use Rattle.pcj_replay.specs.Query.{IsSlot, slot_word, IsPattern, IsPatternOf, IsQuery, QueryText, query_words, framed, is_selection}
+use Rattle.pcj_replay.specs.Query.{IsSlot, slot_word, IsPattern, IsPatternOf, QueryText, framed, is_selection}
 use Rattle.pcj_replay.proofs.QueryFrame.{one_frame, SameWords, one_variable_list}
 
 -- a query of this text has these words

@@ -1,16 +1,14 @@
 -- What a command did is a reply that it may give.
-use Rattle.std.proofs.Common.{◌≡◌, ℕ, ◌+◌, List, [], ◌∷◌, ◌++◌, Result, Ok, Err, IfOk, Option, Some, None, refl, ap, sym, subst, ◌∙◌, length, inl, inr}
-use Rattle.std.specs.Prelude.{◌⊎◌}
+use Rattle.std.proofs.Common.{◌≡◌, ℕ, ◌+◌, List, [], ◌∷◌, ◌++◌, Result, Ok, Err, IfOk, Some, None, refl, ap, length, inl, inr}
 use Rattle.pcj_term.specs.declared.triple.Triple.{Triple}
 use Rattle.pcj_ntriples.specs.declared.kind.NtKind.{NtKind}
 use Rattle.pcj_ntriples.specs.Document.{Document, DocumentFault, number_of}
-use Rattle.pcj_replay.specs.declared.command.Command.{Command}
 use Rattle.pcj_replay.specs.declared.command.Command.TheVariants.{Load, Register, Answers}
 use Rattle.pcj_replay.specs.declared.query.Query.{Query}
 use Rattle.pcj_replay.specs.Query.{QueryText, AnswerLines}
 use Rattle.pcj_replay.specs.Lines.{loaded_line, committed_line, registered_line, taken_line, refused_line, no_query_line, rows_line}
-use Rattle.pcj_replay.specs.Transcript.{State, Reply, query_named, printed_lines}
-use Rattle.pcj_replay.specs.World.{Replies, Commits, Names, NamesFree, NamesTaken}
+use Rattle.pcj_replay.specs.Transcript.{State, query_named, printed_lines}
+use Rattle.pcj_replay.specs.World.{Replies, Commits, Names}
 
 pub IfOk-weaker : {T E : Type 0} (result : Result T E) (P Q : T → Type 0) → ((x : T) → P x → Q x) → IfOk result P → IfOk result Q
 IfOk-weaker (Ok x) P Q f h = f x h

@@ -2,10 +2,10 @@
 use Rattle.std.proofs.Common.{◌≡◌, ℕ, ◌+◌, ◌*◌, ◌<◌, ◌≤◌, List, [], ◌∷◌, ◌++◌, Option, refl, ap, sym, subst, ◌∙◌, length, take, slice_index_or, arith, append-nil, inl, inr}
 use Rattle.std.proofs.lemmas.List.{take_more}
 use Rattle.std.proofs.lemmas.List.Concat.{flat_map-append}
-use Rattle.pcj_io.specs.Sink.{Appends, AppendsPrefix}
+use Rattle.pcj_io.specs.Sink.{Appends}
 use Rattle.pcj_io.proofs.Appended.{Appends-nil, Appends-append, AppendsPrefix-all, AppendsPrefix-after}
 use Rattle.pcj_replay.specs.declared.command.Command.{Command}
-use Rattle.pcj_replay.specs.Transcript.{State, empty_state, Reply, Run, Transcript, printed, printed_lines}
+use Rattle.pcj_replay.specs.Transcript.{State, empty_state, Reply, Run, printed, printed_lines}
 use Rattle.pcj_replay.specs.World.{Replies}
 use Rattle.pcj_replay.specs.Run.{PrintsAll, PrintsPart, PrintsReply, PrintsReplyPart, CutsReply}
 

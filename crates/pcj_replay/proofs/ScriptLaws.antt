@@ -1,16 +1,16 @@
 -- How a script goes on by one item, and where it ends.
-use Rattle.std.proofs.Common.{◌≡◌, ◌≢◌, ℕ, ◌+◌, ◌-◌, ◌<◌, ◌≤◌, Bool, true, false, cond, List, [], ◌∷◌, ◌++◌, Option, Some, None, length, take, drop, refl, ap, sym, subst, ◌∙◌, arith, inl, inr, length-append, append_assoc, append-nil, length-drop, drop-drop, map}
-use Rattle.std.specs.Prelude.{◌⊎◌, ◌==◌, codes}
+use Rattle.std.proofs.Common.{◌≡◌, ℕ, ◌+◌, ◌-◌, ◌<◌, ◌≤◌, Bool, true, false, cond, List, [], ◌∷◌, ◌++◌, Option, Some, None, length, take, drop, refl, ap, sym, subst, ◌∙◌, arith, inl, inr, append_assoc, append-nil, length-drop, drop-drop}
+use Rattle.std.specs.Prelude.{◌==◌, codes}
 use Rattle.std.proofs.lemmas.Bool.Decides.{Decides-eqb}
-use Rattle.std.specs.List.{filter_map, AllByRecursion}
+use Rattle.std.specs.List.{filter_map}
 use Rattle.std.proofs.lemmas.List.{take-append-drop}
 use Rattle.std.proofs.lemmas.List.Elements.{filter_map-append}
 use Rattle.pcj_replay.specs.declared.command.Command.{Command}
 use Rattle.pcj_replay.specs.declared.command.Command.TheVariants.{Load, Register, Answers}
 use Rattle.pcj_replay.specs.Name.{words_of}
-use Rattle.pcj_replay.specs.Item.{Takes, TakesLines, Leaves, StopsAt, refused_line, refused_number}
+use Rattle.pcj_replay.specs.Item.{TakesLines, Leaves, StopsAt, refused_line, refused_number}
 use Rattle.pcj_replay.specs.declared.script.Left.{Left}
-use Rattle.pcj_replay.specs.Script.{command_words, client_name, IsNamed, HasText, HasNoEnd, TextLines, BodyLines, CommandLines, ItemLines, Spells, BeginsNone, IsOpen, EndsAt, IsCut, end_line}
+use Rattle.pcj_replay.specs.Script.{command_words, HasText, HasNoEnd, BodyLines, ItemLines, Spells, BeginsNone, IsOpen, EndsAt, IsCut, end_line}
 
 -- one more item stands at the front of the rest
 pub Spells-next : (lines : List (List ℕ)) (items : List (Option Command)) (rest : List (List ℕ)) (item : Option Command) (count : ℕ) →

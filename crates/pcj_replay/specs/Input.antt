@@ -1,5 +1,5 @@
 -- What is read of a script.
-use Rattle.std.specs.Prelude.{◌≡◌, ℕ, Bool, List, take, Option, Some, None}
+use Rattle.std.specs.Prelude.{◌≡◌, ℕ, List, take, Option, Some, None}
 use Rattle.pcj_replay.specs.declared.input.Input.{Input}
 use Rattle.pcj_replay.specs.declared.script.TheConstants.{SCRIPT_LIMIT}
 use Rattle.pcj_replay.specs.Script.{is_too_long}

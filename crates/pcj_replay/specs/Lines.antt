@@ -1,5 +1,5 @@
 -- The lines of a transcript, each without its LF.
-use Rattle.std.specs.Prelude.{ℕ, List, [], ◌∷◌, ◌++◌, codes}
+use Rattle.std.specs.Prelude.{ℕ, List, ◌++◌, codes}
 use Rattle.std.specs.Fmt.{decimal}
 use Rattle.pcj_replay.specs.Script.{client_name}
 

@@ -1,5 +1,5 @@
 -- The first line of a command.
-use Rattle.std.specs.Prelude.{◌≡◌, ℕ, ◌+◌, ◌-◌, ◌*◌, ◌&&◌, nat_le, true, List, [], ◌∷◌, Option, Some, None, if◌then◌else◌}
+use Rattle.std.specs.Prelude.{◌≡◌, ℕ, ◌+◌, ◌-◌, ◌*◌, ◌&&◌, nat_le, List, [], ◌∷◌, Option, Some, None, if◌then◌else◌}
 use Rattle.pcj_term.specs.Iri.{lies_between}
 use Rattle.pcj_replay.specs.declared.command.Command.TheVariants as commands
 use Rattle.pcj_replay.specs.declared.opening.Opening.{Opening}

@@ -1,5 +1,5 @@
 -- How a run ends, and what it has written then.
-use Rattle.std.specs.Prelude.{◌≡◌, ◌≢◌, ◌⊎◌, ℕ, List, [], ◌∷◌, codes, Option, Some, None, Result, Ok, Err}
+use Rattle.std.specs.Prelude.{◌≡◌, ◌⊎◌, ℕ, List, [], ◌∷◌, codes, Option, Some, None, Result, Ok, Err}
 use Rattle.pcj_io.specs.Faults.{Rose}
 use Rattle.pcj_io.specs.Sink.{Appends, AppendsPrefix}
 use Rattle.pcj_replay.specs.declared.command.Command.{Command}
@@ -10,7 +10,7 @@ use Rattle.pcj_replay.specs.declared.stop.Stop.{Stop}
 use Rattle.pcj_replay.specs.declared.stop.Stop.TheVariants as stops
 use Rattle.pcj_replay.specs.Input.{Told}
 use Rattle.pcj_replay.specs.Lines.{usage_line}
-use Rattle.pcj_replay.specs.Run.{PrintsAll, PrintsRefusal, PrintsPrefix, Concludes}
+use Rattle.pcj_replay.specs.Run.{PrintsAll, PrintsRefusal, PrintsPrefix}
 use Rattle.pcj_replay.specs.Script.{IsScript, ended}
 
 -- ---- the word `replay`

@@ -1,13 +1,13 @@
 -- Queries of one triple pattern, their texts and their answers (SPARQL 1.1 Query, sections 4, 5 and 18).
-use Rattle.std.specs.Prelude.{◌≡◌, ◌↔◌, ℕ, Bool, true, false, not, ◌&&◌, ◌||◌, List, [], ◌∷◌, ◌++◌, ◌==◌, map, codes, Option, Some, None}
-use Rattle.std.specs.List.{list_all, list_any, slice_split, join_with_byte, AllZip, Contains}
+use Rattle.std.specs.Prelude.{◌≡◌, ◌↔◌, ℕ, Bool, true, false, not, ◌&&◌, ◌||◌, List, [], ◌∷◌, ◌++◌, map, codes, Option, Some, None}
+use Rattle.std.specs.List.{list_all, join_with_byte, AllZip, Contains}
 use Rattle.std.specs.List.Sorted.{IsStrictlySortedBy}
 use Rattle.std.specs.Cmp.Lexicographic.{slice_cmp}
 use Rattle.std.specs.Ordering.{nat_cmp}
 use Rattle.pcj_term.specs.declared.term.Term.{Term}
 use Rattle.pcj_term.specs.declared.term.Term.TheVariants.{Iri, Blank, Literal}
 use Rattle.pcj_term.specs.declared.triple.Triple.{Triple}
-use Rattle.pcj_term.specs.Iri.{is_letter, is_iri_text}
+use Rattle.pcj_term.specs.Iri.{is_iri_text}
 use Rattle.pcj_term.specs.Term.{printed}
 use Rattle.pcj_term.specs.Triple.{same_bytes}
 use Rattle.pcj_replay.specs.Name.{is_variable_name, variable_word, words_of, are_distinct, is_empty_list}

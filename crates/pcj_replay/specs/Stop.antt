@@ -1,5 +1,5 @@
 -- Why a run stops.
-use Rattle.std.specs.Prelude.{◌≡◌, ℕ, ◌≤◌, Result, IsErrOf}
+use Rattle.std.specs.Prelude.{ℕ, ◌≤◌, Result, IsErrOf}
 use Rattle.pcj_io.specs.declared.sink.SinkError.{SinkError}
 use Rattle.pcj_io.specs.declared.sink.SinkError.TheVariants as sink_errors
 use Rattle.pcj_io.specs.Faults.{Rose}

@@ -1,4 +1,4 @@
-use Rattle.std.proofs.Common.{◌≡◌, ◌<◌, ◌≤◌, ◌∷◌, [], ◌++◌, ap, sym, ◌∙◌, List, ℕ, length, arith}
+use Rattle.std.proofs.Common.{◌<◌, ◌++◌, ap, ◌∙◌, List, ℕ, length, arith}
 use Rattle.pcj_term.specs.Term.{printed}
 use Rattle.pcj_replay.proofs.Rows.{row_line-first, row_line-more}
 use Rattle.pcj_replay.proofs.answer.row_line.Goals as goal

@@ -1,4 +1,4 @@
-use Rattle.std.proofs.Common.{◌≡◌, sym, ◌∙◌}
+use Rattle.std.proofs.Common.{sym, ◌∙◌}
 use Rattle.pcj_replay.proofs.QueryFrame.{distinct_from_first}
 use Rattle.pcj_replay.proofs.query.are_distinct.Goals as goal
 

@@ -1,4 +1,4 @@
-use Rattle.std.proofs.Common.{◌≡◌, ◌+◌, arith, ap, ◌∙◌, length, ℕ}
+use Rattle.std.proofs.Common.{◌≡◌, ◌+◌, arith, ap, ◌∙◌, length}
 use Rattle.pcj_replay.proofs.QueryFrame.{front_of_frame, back_of_frame, texts}
 use Rattle.pcj_replay.proofs.query_words.query_words.Goals as goal
 

@@ -1,4 +1,4 @@
-use Rattle.std.proofs.Common.{◌≡◌, ◌<◌, length, arith}
+use Rattle.std.proofs.Common.{◌<◌, length, arith}
 use Rattle.pcj_io.proofs.Errors.{OnErr-of}
 use Rattle.pcj_replay.specs.World.{state_of}
 use Rattle.pcj_replay.proofs.RunLaws.{run_nothing, run_more, run_cut}

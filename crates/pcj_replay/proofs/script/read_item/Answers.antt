@@ -1,4 +1,4 @@
-use Rattle.std.proofs.Common.{◌≡◌, Some}
+use Rattle.std.proofs.Common.{Some}
 use Rattle.pcj_replay.proofs.script.read_item.Goals as goal
 
 pub returns-in_ok-push-in-Whole : goal.returns-in_ok-push-in-Whole

@@ -1,4 +1,4 @@
-use Rattle.std.proofs.Common.{◌≡◌, ap, sym, ◌∙◌, subst, List, ℕ, drop, map, Bor}
+use Rattle.std.proofs.Common.{◌≡◌, ap, sym, ◌∙◌, subst, List, ℕ, drop, Bor}
 use Rattle.std.proofs.lemmas.List.{drop-map}
 use Rattle.pcj_replay.specs.Item.{TakesLines}
 use Rattle.pcj_replay.proofs.QueryFrame.{texts}

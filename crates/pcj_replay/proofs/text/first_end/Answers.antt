@@ -1,4 +1,4 @@
-use Rattle.std.proofs.Common.{◌≡◌, ◌<◌, ◌∙◌, length, arith}
+use Rattle.std.proofs.Common.{◌<◌, ◌∙◌, length, arith}
 use Rattle.pcj_replay.proofs.QueryFrame.{same_from_test}
 use Rattle.pcj_replay.proofs.FrontLaws.{ends_first}
 use Rattle.pcj_replay.proofs.text.first_end.Goals as goal

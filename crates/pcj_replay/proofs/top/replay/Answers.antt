@@ -1,4 +1,3 @@
-use Rattle.std.proofs.Common.{◌≡◌}
 use Rattle.pcj_replay.proofs.OutcomeLaws.{completes_at, refuses_at}
 use Rattle.pcj_replay.proofs.top.replay.Goals as goal
 

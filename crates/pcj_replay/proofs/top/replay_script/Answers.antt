@@ -1,4 +1,3 @@
-use Rattle.std.proofs.Common.{◌≡◌, List, ℕ}
 use Rattle.pcj_replay.proofs.OutcomeLaws.{replayed}
 use Rattle.pcj_replay.proofs.top.replay_script.Goals as goal
 

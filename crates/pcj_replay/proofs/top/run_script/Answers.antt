@@ -1,4 +1,4 @@
-use Rattle.std.proofs.Common.{◌≡◌, subst, List}
+use Rattle.std.proofs.Common.{subst, List}
 use Rattle.pcj_io.proofs.Errors.{OnErr-weaker}
 use Rattle.pcj_replay.specs.declared.command.Command.{Command}
 use Rattle.pcj_replay.specs.Run.{PrintsAll}

@@ -1,4 +1,4 @@
-use Rattle.std.proofs.Common.{◌≡◌, [], ◌∷◌}
+use Rattle.std.proofs.Common.{[]}
 use Rattle.pcj_replay.specs.declared.command.Command.TheVariants as commands
 use Rattle.pcj_replay.proofs.FrontLaws.{open_front}
 use Rattle.pcj_replay.proofs.front.Front.load.Goals as goal

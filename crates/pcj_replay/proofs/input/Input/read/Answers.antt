@@ -1,4 +1,4 @@
-use Rattle.std.proofs.Common.{rules, ◌≡◌, ℕ, ◌<◌, ◌≤◌, sym, subst, ◌∙◌, refl, length, vec_len, arith}
+use Rattle.std.proofs.Common.{rules, ◌≡◌, ◌<◌, ◌≤◌, subst, refl, length, arith}
 use Rattle.pcj_io.specs.Source.{EndsWhereNothingIsLeft}
 use Rattle.pcj_replay.proofs.InputLaws.{read_whole, read_past}
 use Rattle.pcj_replay.proofs.input.Input.read.Goals as goal

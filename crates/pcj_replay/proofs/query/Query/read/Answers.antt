@@ -1,9 +1,8 @@
-use Rattle.std.proofs.Common.{rules, ◌≡◌, ◌≢◌, List, ℕ, map, ap, sym, ◌∙◌, ◌∷◌, [], ◌++◌, Some, Bor, false, true}
+use Rattle.std.proofs.Common.{◌≡◌, List, ℕ, ap, sym, ◌∙◌, ◌∷◌, [], ◌++◌, Some, true}
 use Rattle.std.proofs.lemmas.Bool.{false≢true}
 use Rattle.std.proofs.lemmas.Slice.Eq.{strip_suffix_is}
 use Rattle.std.proofs.lemmas.Bool.Decides.{Decides-eqb}
-use Rattle.pcj_replay.specs.Name.{words_of}
-use Rattle.pcj_replay.specs.Query.{is_selection, occurs_in, QueryText, framed}
+use Rattle.pcj_replay.specs.Query.{is_selection}
 use Rattle.pcj_replay.proofs.QueryFrame.{texts}
 use Rattle.pcj_replay.proofs.QueryRead.{same_words, pattern_of, same_selection, read_query}
 use Rattle.pcj_replay.proofs.query.Query.read.Goals as goal

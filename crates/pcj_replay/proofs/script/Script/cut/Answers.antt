@@ -1,4 +1,4 @@
-use Rattle.std.proofs.Common.{◌≡◌, ap, sym, ◌∙◌, subst, List, ℕ, [], map, Bor, length, Option}
+use Rattle.std.proofs.Common.{ap, sym, ◌∙◌, subst, List, ℕ, Bor, Option}
 use Rattle.std.proofs.lemmas.List.{length-map}
 use Rattle.pcj_replay.specs.declared.command.Command.{Command}
 use Rattle.pcj_replay.specs.Item.{Leaves, refused_line}

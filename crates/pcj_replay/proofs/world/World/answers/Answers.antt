@@ -1,5 +1,5 @@
-use Rattle.std.proofs.Common.{rules, ◌≡◌, ℕ, ◌+◌, List, [], ◌∷◌, ◌++◌, IfOk, ap, sym, subst, ◌∙◌, None, Some, arith, inl, inr}
-use Rattle.pcj_replay.specs.World.{state_of, Replies, Commits, Names}
+use Rattle.std.proofs.Common.{◌≡◌, sym, None}
+use Rattle.pcj_replay.specs.World.{state_of}
 use Rattle.pcj_replay.specs.Transcript.{query_named}
 use Rattle.pcj_replay.proofs.ReplyLaws.{IfOk-weaker, unknown}
 use Rattle.pcj_replay.proofs.world.World.answers.Goals as goal

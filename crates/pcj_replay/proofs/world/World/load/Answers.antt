@@ -1,5 +1,5 @@
-use Rattle.std.proofs.Common.{rules, ◌≡◌, ℕ, ◌+◌, List, [], ◌∷◌, ◌++◌, IfOk, ap, sym, subst, ◌∙◌, None, Some, arith, inl, inr}
-use Rattle.pcj_replay.specs.World.{state_of, Replies, Commits, Names}
+use Rattle.std.proofs.Common.{ℕ, ◌+◌, List, subst}
+use Rattle.pcj_replay.specs.World.{state_of}
 use Rattle.pcj_ntriples.specs.Document.{Document, DocumentFault}
 use Rattle.pcj_replay.proofs.ReplyLaws.{IfOk-weaker, refuses_load, loads}
 use Rattle.pcj_replay.proofs.world.World.load.Goals as goal

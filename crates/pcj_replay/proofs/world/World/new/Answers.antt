@@ -1,4 +1,4 @@
-use Rattle.std.proofs.Common.{◌≡◌, ap, ◌∙◌, [], List, ℕ}
+use Rattle.std.proofs.Common.{ap, ◌∙◌, [], List, ℕ}
 use Rattle.pcj_term.specs.declared.triple.Triple.{Triple}
 use Rattle.pcj_replay.specs.declared.query.Query.{Query}
 use Rattle.pcj_replay.specs.Transcript.{State, empty_state}

@@ -1,6 +1,5 @@
-use Rattle.std.proofs.Common.{rules, ◌≡◌, ℕ, ◌+◌, List, [], ◌∷◌, ◌++◌, IfOk, ap, sym, subst, ◌∙◌, None, Some, arith, inl, inr}
-use Rattle.pcj_replay.specs.World.{state_of, Replies, Commits, Names}
-use Rattle.pcj_replay.specs.declared.query.Query.{Query}
+use Rattle.std.proofs.Common.{ℕ, List, sym, subst}
+use Rattle.pcj_replay.specs.World.{state_of}
 use Rattle.pcj_replay.specs.Query.{QueryText}
 use Rattle.pcj_replay.proofs.ReplyLaws.{IfOk-weaker, refuses_query, registers}
 use Rattle.pcj_replay.proofs.world.World.register.Goals as goal
