@@ -1,11 +1,12 @@
-ghost use Rattle.std.specs.Prelude.{◌≡◌, ◌≤◌};
+ghost use Rattle.std.specs.Prelude.{◌≡◌, ◌≤◌, true};
+ghost use Rattle.pcj_io.specs.Faults.{Rose};
 ghost use Rattle.pcj_io.specs.Calls.{IsNextCall, no_calls};
 
 use std::marker::Model;
 
 /// How many calls were made, how many of them failed, and the numbers of those that are to fail.
 #[derive(Drop)]
-pub(crate) struct FailingCalls {
+pub struct FailingCalls {
     failing: Vec<u64>,
     made: u64,
     faults: u64,
@@ -20,7 +21,8 @@ impl Model for FailingCalls {
 }
 
 impl FailingCalls {
-    pub(crate) fn new(failing: Vec<u64>) -> FailingCalls
+    /// None were made yet. Those whose numbers, from 1, are in `failing` are to fail.
+    pub fn new(failing: Vec<u64>) -> FailingCalls
         ensures { result ≡ no_calls failing.items }
     {
         FailingCalls {
@@ -30,16 +32,25 @@ impl FailingCalls {
         }
     }
 
-    pub(crate) fn faults(&self) -> u64
+    /// How many have failed. The count stops at 2^64 - 1.
+    pub fn faults(&self) -> u64
         ensures { result ≡ self.now.faults }
     {
         self.faults
     }
 
+    /// How many were made. The count stops at 2^64 - 1.
+    pub fn made(&self) -> u64
+        ensures { result ≡ self.now.made }
+    {
+        self.made
+    }
+
     /// Counts one call, and says whether it is to fail.
-    pub(crate) fn next_fails(&mut self) -> bool
+    pub fn next_fails(&mut self) -> bool
         ensures next { IsNextCall self.old self.new result }
         ensures later { self.old.faults ≤ self.new.faults }
+        ensures cause { result ≡ true → Rose self.old.faults self.new.faults }
     {
         self.made = self.made.saturating_add(1);
         let fails = self.failing.contains(&self.made);

@@ -16,6 +16,7 @@ mod std_source;
 #[cfg(test)]
 mod tests;
 
+pub use failing_calls::FailingCalls;
 pub use mem_sink::MemSink;
 pub use mem_source::MemSource;
 pub use sink::{Sink, SinkError, write_all};
