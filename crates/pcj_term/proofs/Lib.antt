@@ -1,2 +1,7 @@
+pub mod Cells
 pub mod Derived
+pub mod Escapes
+pub mod IntegerText
+pub mod Parts
+pub mod Reading
 pub mod Same

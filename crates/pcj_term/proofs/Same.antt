@@ -19,7 +19,7 @@ both : (a b : Bool) → a && b ≡ true → (a ≡ true) × (b ≡ true)
 both true b h = (refl, h)
 both false b h = (cc)
 
-both_true : {a b : Bool} → a ≡ true → b ≡ true → a && b ≡ true
+pub both_true : {a b : Bool} → a ≡ true → b ≡ true → a && b ≡ true
 both_true p q = rw (p, q) refl
 
 same_kind_true : (k l : Kind) → same_kind k l ≡ true → k ≡ l

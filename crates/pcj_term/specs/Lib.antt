@@ -1,3 +1,10 @@
+pub mod Integer
 pub mod Iri
+pub mod Label
+pub mod Laws
+pub mod Read
+pub mod Reading
+pub mod Tag
 pub mod Term
 pub mod Triple
+pub mod Valid

@@ -1,14 +1,18 @@
+mod classes;
+mod integers;
+mod reading;
+
 use super::*;
 use std::alloc::Global;
 use std::test::Fail;
 
-fn bytes(alloc: Global, text: &[u8]) -> Result<Bytes, Memory> {
+fn bytes_of(alloc: Global, text: &[u8]) -> Result<Bytes, Memory> {
     Bytes::from_slice(alloc, text)
 }
 
 fn literal(alloc: Global, text: &[u8], kind: Kind) -> Result<Term, Memory> {
     Ok(Term::Literal {
-        text: bytes(alloc, text)?,
+        text: bytes_of(alloc, text)?,
         kind,
     })
 }
@@ -16,9 +20,9 @@ fn literal(alloc: Global, text: &[u8], kind: Kind) -> Result<Term, Memory> {
 /// Each term and what it prints.
 fn printed_terms(alloc: Global) -> Result<Vec<(Term, &'static [u8])>, Memory> {
     let mut table = Vec::new(alloc);
-    let iri = bytes(alloc, b"http://e.org/a")?;
+    let iri = bytes_of(alloc, b"http://e.org/a")?;
     table.push((Term::Iri(iri), b"<http://e.org/a>".as_slice()))?;
-    let label = bytes(alloc, b"a")?;
+    let label = bytes_of(alloc, b"a")?;
     table.push((Term::Blank { load: 3, label }, b"_:t3xa".as_slice()))?;
     let five = literal(alloc, b"5", Kind::Plain)?;
     table.push((five, b"\"5\"".as_slice()))?;
@@ -26,9 +30,9 @@ fn printed_terms(alloc: Global) -> Result<Vec<(Term, &'static [u8])>, Memory> {
     table.push((accent, b"\"\xc3\xa9\"".as_slice()))?;
     let escapes = literal(alloc, b"a\tb\nc\rd\"e\\f", Kind::Plain)?;
     table.push((escapes, b"\"a\\tb\\nc\\rd\\\"e\\\\f\"".as_slice()))?;
-    let tag = Kind::Lang(bytes(alloc, b"en-us")?);
+    let tag = Kind::Lang(bytes_of(alloc, b"en-us")?);
     table.push((literal(alloc, b"x", tag)?, b"\"x\"@en-us".as_slice()))?;
-    let integer = Kind::Typed(bytes(alloc, b"http://www.w3.org/2001/XMLSchema#integer")?);
+    let integer = Kind::Typed(bytes_of(alloc, b"http://www.w3.org/2001/XMLSchema#integer")?);
     table.push((
         literal(alloc, b"01", integer)?,
         b"\"01\"^^<http://www.w3.org/2001/XMLSchema#integer>".as_slice(),
@@ -118,8 +122,8 @@ fn items_hold_what_was_pushed(rt: HostRuntime) -> Result<(), Fail> {
 fn triples_are_copied_whole(rt: HostRuntime) -> Result<(), Fail> {
     let alloc = rt.alloc();
     let triple = Triple {
-        subject: Term::Iri(bytes(alloc, b"a:s")?),
-        predicate: Term::Iri(bytes(alloc, b"a:p")?),
+        subject: Term::Iri(bytes_of(alloc, b"a:s")?),
+        predicate: Term::Iri(bytes_of(alloc, b"a:p")?),
         object: literal(alloc, b"o", Kind::Plain)?,
     };
     assert!(rt; triple.try_clone(alloc)? == triple);

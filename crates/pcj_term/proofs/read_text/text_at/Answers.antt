@@ -1,0 +1,25 @@
+use Rattle.std.proofs.Common.{sym, ap, ◌∙◌, option_map, append-nil, List, [], ℕ, Some}
+use Rattle.pcj_term.specs.Reading.{with_front, text_at}
+use Rattle.pcj_term.proofs.Escapes.{with_front-push, printed_step, printed_end}
+use Rattle.pcj_term.proofs.read_text.text_at.Goals as goal
+
+pub loop-byte-preserved : goal.loop-byte-preserved
+loop-byte-preserved c =
+    let step = printed_step c.loop-byte.rest.now (c.in-Some.byte, c.in-Some.following.now) (sym c.in-Some.ensures) in
+    ap (λ (text : List ℕ). with_front text (text_at c.in-Some.following.now)) c.in_ok-push.ensures.items
+    ∙ with_front-push c.loop-byte.text.items c.in-Some.byte (text_at c.in-Some.following.now)
+    ∙ sym (ap (with_front c.loop-byte.text.items) step.0)
+    ∙ c.loop-byte.invariant
+
+pub returns-in-Some-after : goal.returns-in-Some-after
+returns-in-Some-after c =
+    let text : List ℕ = c.loop-byte.text.items in
+    let end = printed_end c.loop-byte.rest.now (sym c.in_default.ensures) ∙ ap (option_map (λ (rest : List ℕ). ([], rest))) (sym c.in-Some-after.ensures) in
+    ap (λ (front : List ℕ). Some (front, c.in-Some-after.following.now)) (c.from_vec.ensures ∙ sym (append-nil text))
+    ∙ sym (ap (with_front text) end)
+    ∙ c.loop-byte.invariant
+
+pub returns : goal.returns
+returns c =
+    let end = printed_end c.loop-byte.rest.now (sym c.in_default.ensures) ∙ ap (option_map (λ (rest : List ℕ). ([], rest))) (sym c.in-None.ensures) in
+    sym (ap (with_front c.loop-byte.text.items) end) ∙ c.loop-byte.invariant
