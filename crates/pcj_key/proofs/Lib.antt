@@ -1,0 +1,4 @@
+pub mod Reading
+pub mod Keys
+pub mod Ordered
+pub mod Ranges
