@@ -1,0 +1,5 @@
+pub mod Places
+pub mod Edits
+pub mod Tables
+pub mod Ranges
+pub mod Drops

@@ -1,0 +1,14 @@
+//! The conditional row table in memory: a vector of rows in ascending order of keys.
+#![tactic(auto)]
+
+mod mem_table;
+mod mutate;
+mod place;
+mod range;
+mod read;
+mod walk;
+
+pub use mem_table::MemTable;
+
+#[cfg(test)]
+mod tests;

@@ -1,0 +1,141 @@
+ghost use Rattle.std.specs.Prelude.{◌≡◌, true, [], ◌∷◌, is_err, IfOk, IfErr, OnErr};
+ghost use Rattle.pcj_io.specs.Calls.{IsNextCall, no_calls};
+ghost use Rattle.pcj_table.specs.Calls.{HasTableCause, has_failed, counted};
+ghost use Rattle.pcj_table.specs.Row.{conds_hold};
+ghost use Rattle.pcj_table.specs.Table.{row_at, shown, first_row, is_next_at, is_next_lock, is_counted_between, rows_that, Mutates};
+ghost use Rattle.pcj_table.specs.declared.update.Update.TheVariants.{DropLock};
+ghost use Rattle.pcj_table.specs.declared.error.TableError.TheVariants.{Failed};
+ghost use Rattle.pcj_memtable.specs.Entries.{table_of};
+
+use crate::mutate::mutate;
+use crate::read::row_of;
+use crate::walk::{count_between, next_locked, next_seen};
+use pcj_io::FailingCalls;
+use pcj_table::{Cond, Found, Mutated, Row, RowTable, TableError, Update};
+use pcj_term::Items;
+use std::alloc::Global;
+use std::marker::Model;
+
+/// A conditional row table in memory, which fails on chosen calls.
+///
+/// A look-up takes a number of steps that is a logarithm of the rows. A new row moves those above it.
+#[derive(Drop)]
+pub struct MemTable {
+    alloc: Global,
+    rows: Vec<Found>,
+    calls: FailingCalls,
+}
+
+impl Model for MemTable {
+    ghost use Rattle.std.specs.Prelude.{◌≡◌, true};
+    ghost use Rattle.pcj_memtable.specs.Entries.{Kept, keys_rise};
+
+    ghost Value = { Kept };
+
+    ghost view = { λ t. record { rows = t.rows.items; calls = t.calls } };
+
+    ghost invariant = { λ t. keys_rise t.rows.items ≡ true };
+}
+
+impl MemTable {
+    /// A table without rows. The calls whose numbers, from 1, are in `failing` answer `Failed`.
+    pub fn new(alloc: Global, failing: Items<u64>) -> MemTable
+        ensures { result ≡ record { rows = []; calls = no_calls failing } }
+    {
+        MemTable {
+            alloc,
+            rows: Vec::new(alloc),
+            calls: FailingCalls::new(failing.into_vec()),
+        }
+    }
+}
+
+impl RowTable for MemTable {
+    ghost rows = { λ t. table_of t.rows };
+
+    ghost failures = { λ t. t.calls.faults };
+
+    ghost made = { λ t. t.calls.made };
+
+    fn get(&mut self, key: &[u8]) -> Result<Option<Row>, TableError>
+        ensures found { IfOk result (λ row. row ≡ shown (row_at (table_of self.old.rows) key.now)) }
+        ensures same { table_of self.new.rows ≡ table_of self.old.rows }
+        ensures cause { HasTableCause self.old.calls.faults self.new.calls.faults result }
+        ensures calls { self.new.calls.made ≡ counted self.old.calls.made }
+        ensures next { IsNextCall self.old.calls self.new.calls (has_failed result) }
+    {
+        begin(&mut self.calls)?;
+        Ok(row_of(self.alloc, &self.rows, key)?)
+    }
+
+    fn next(&mut self, after: &[u8], end: &[u8], at: u64) -> Result<Option<Found>, TableError>
+        ensures found { IfOk result (λ row. row ≡ first_row (is_next_at after.now end.now at) (table_of self.old.rows)) }
+        ensures same { table_of self.new.rows ≡ table_of self.old.rows }
+        ensures cause { HasTableCause self.old.calls.faults self.new.calls.faults result }
+        ensures calls { self.new.calls.made ≡ counted self.old.calls.made }
+        ensures next { IsNextCall self.old.calls self.new.calls (has_failed result) }
+    {
+        begin(&mut self.calls)?;
+        Ok(next_seen(self.alloc, &self.rows, after, end, at)?)
+    }
+
+    fn next_lock(&mut self, after: &[u8]) -> Result<Option<Found>, TableError>
+        ensures found { IfOk result (λ row. row ≡ first_row (is_next_lock after.now) (table_of self.old.rows)) }
+        ensures same { table_of self.new.rows ≡ table_of self.old.rows }
+        ensures cause { HasTableCause self.old.calls.faults self.new.calls.faults result }
+        ensures calls { self.new.calls.made ≡ counted self.old.calls.made }
+        ensures next { IsNextCall self.old.calls self.new.calls (has_failed result) }
+    {
+        begin(&mut self.calls)?;
+        Ok(next_locked(self.alloc, &self.rows, after)?)
+    }
+
+    fn count(&mut self, from: &[u8], end: &[u8]) -> Result<u64, TableError>
+        ensures count { IfOk result (λ n. n ≡ rows_that (is_counted_between from.now end.now) (table_of self.old.rows)) }
+        ensures same { table_of self.new.rows ≡ table_of self.old.rows }
+        ensures cause { HasTableCause self.old.calls.faults self.new.calls.faults result }
+        ensures calls { self.new.calls.made ≡ counted self.old.calls.made }
+        ensures next { IsNextCall self.old.calls self.new.calls (has_failed result) }
+        ensures memory { IfErr result (λ e. e ≡ Failed) }
+    {
+        begin(&mut self.calls)?;
+        Ok(count_between(&self.rows, from, end) as u64)
+    }
+
+    fn mutate(
+        &mut self,
+        key: &[u8],
+        conds: &[Cond],
+        updates: &[Update],
+    ) -> Result<Mutated, TableError>
+        ensures done { IfOk result (λ done. Mutates (table_of self.old.rows) key.now conds.now updates.now done (table_of self.new.rows)) }
+        ensures err { OnErr result (table_of self.new.rows ≡ table_of self.old.rows) }
+        ensures cause { HasTableCause self.old.calls.faults self.new.calls.faults result }
+        ensures calls { self.new.calls.made ≡ counted self.old.calls.made }
+        ensures next { IsNextCall self.old.calls self.new.calls (has_failed result) }
+        ensures drops { updates.now ≡ DropLock ∷ [] → conds_hold (row_at (table_of self.old.rows) key.now) conds.now ≡ true → IfErr result (λ e. e ≡ Failed) }
+    {
+        begin(&mut self.calls)?;
+        Ok(mutate(self.alloc, &mut self.rows, key, conds, updates)?)
+    }
+
+    fn faults(&self) -> u64 {
+        self.calls.faults()
+    }
+
+    fn calls(&self) -> u64 {
+        self.calls.made()
+    }
+}
+
+/// Counts one call, which fails where its number was chosen.
+fn begin(calls: &mut FailingCalls) -> Result<(), TableError>
+    ensures next { IsNextCall calls.old calls.new (is_err result) }
+    ensures cause { HasTableCause calls.old.faults calls.new.faults result }
+    ensures failed { IfErr result (λ e. e ≡ Failed) }
+{
+    if calls.next_fails() {
+        return Err(TableError::Failed);
+    }
+    Ok(())
+}
