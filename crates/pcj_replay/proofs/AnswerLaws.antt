@@ -27,7 +27,7 @@ Holds {X} h xs y = (x : X) × Contains xs x × (h x ≡ Some y)
 pub nothing_in : {X : Type 0} (x : X) → Contains [] x → ⊥
 nothing_in x c = absurd (omega (arith, c.1))
 
-Contains-cons : {X : Type 0} (x : X) (xs : List X) (z : X) → Contains (x ∷ xs) z → (x ≡ z) ⊎ Contains xs z
+pub Contains-cons : {X : Type 0} (x : X) (xs : List X) (z : X) → Contains (x ∷ xs) z → (x ≡ z) ⊎ Contains xs z
 Contains-cons x xs z c = elim (Contains-append_cases (x ∷ []) xs z c) [
   | inl first ↦ inl (elim (Contains-push_cases [] x z first) [ inl none ↦ absurd (nothing_in z none) | inr same ↦ same ])
   | inr later ↦ inr later
@@ -88,16 +88,16 @@ line_for_from q t line g =
 
 -- ---- all lines
 
-abbrev IsAnswerLine : Query → List Triple → List ℕ → Type 0
+abbrev pub IsAnswerLine : Query → List Triple → List ℕ → Type 0
 IsAnswerLine query triples line = (row : List Term) × Answer query triples row × (line ≡ row_line row)
 
-answer_from_found : (q : Query) (ts : List Triple) (line : List ℕ) → Contains (lines_found q ts) line → IsAnswerLine q ts line
+pub answer_from_found : (q : Query) (ts : List Triple) (line : List ℕ) → Contains (lines_found q ts) line → IsAnswerLine q ts line
 answer_from_found q ts line c =
     let held = Contains-filter_map (line_for q) ts line c in
     let g = line_for_some q held.0 line held.2 in
     (g.1, (g.0, (held.0, held.1, g.2), g.3), g.4)
 
-found_from_answer : (q : Query) (ts : List Triple) (line : List ℕ) → IsAnswerLine q ts line → Contains (lines_found q ts) line
+pub found_from_answer : (q : Query) (ts : List Triple) (line : List ℕ) → IsAnswerLine q ts line → Contains (lines_found q ts) line
 found_from_answer q ts line a =
     let mapping = a.1.0 in
     let solution = a.1.1 in

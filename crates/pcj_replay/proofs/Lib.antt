@@ -1,9 +1,16 @@
 pub mod AnswerLaws
 pub mod ClientLaws
+pub mod Decided
 pub mod FrontLaws
 pub mod InputLaws
 pub mod JoinLaws
 pub mod MatchingLaws
+pub mod OneItem
+pub mod OneOrder
+pub mod OneQuery
+pub mod OneReply
+pub mod OneRun
+pub mod OneScript
 pub mod OutcomeLaws
 pub mod QueryFrame
 pub mod QueryRead
@@ -11,3 +18,8 @@ pub mod ReplyLaws
 pub mod Rows
 pub mod RunLaws
 pub mod ScriptLaws
+pub mod SomeAnswer
+pub mod SomeItem
+pub mod SomeQuery
+pub mod SomeRun
+pub mod SomeScript

@@ -28,7 +28,7 @@ has_end : (own after : List (List ℕ)) → HasNoEnd ((own ++ end_line ∷ []) +
 has_end [] after h = h.0 refl
 has_end (line ∷ own) after h = has_end own after h.1
 
-not_answers : (command : Command) (name : List ℕ) → HasText command → command_words command ≡ command_words (Answers name) → ⊥
+pub not_answers : (command : Command) (name : List ℕ) → HasText command → command_words command ≡ command_words (Answers name) → ⊥
 not_answers (Load client text) name h e =
     let heads : codes "load" ≡ codes "answers" = cc in
     let lengths : length (codes "load") ≡ length (codes "answers") = ap length heads in
@@ -39,7 +39,7 @@ not_answers (Register client n text) name h e =
     absurd (omega (arith, lengths))
 not_answers (Answers n) name h e = absurd h
 
-not_blank : (command : Command) → [] ∷ [] ≡ command_words command → ⊥
+pub not_blank : (command : Command) → [] ∷ [] ≡ command_words command → ⊥
 not_blank (Load client text) e = cc
 not_blank (Register client n text) e = cc
 not_blank (Answers n) e = cc
