@@ -1,6 +1,8 @@
 -- Texts byte by byte: an escape or a byte that stands for itself, up to the quote.
-use Rattle.std.proofs.Common.{◌≡◌, ℕ, ◌<◌, length, Bool, true, false, nat_eq, List, [], ◌∷◌, ◌++◌, Option, Some, None, refl, ap, sym, subst, ◌∙◌, append_assoc, arith, option_map}
+use Rattle.std.proofs.Common.{◌≡◌, ℕ, suc, ◌+◌, ◌<◌, length, Bool, true, false, nat_eq, List, [], ◌∷◌, ◌++◌, Option, Some, None, refl, ap, sym, subst, ◌∙◌, append_assoc, append-nil, arith, option_map, take, drop, get_or, ◌-◌, ◌≤◌}
+use Rattle.std.specs.List.{prefix_len}
 use Rattle.std.proofs.lemmas.Bool.{or_parts, eqb-true, ne_eqb, not-true}
+use Rattle.std.proofs.lemmas.List.{take_all, length-drop}
 use Rattle.std.proofs.lemmas.Option.{cond_some, same_Some}
 use Rattle.pcj_term.specs.Term.{escape_of, escaped}
 use Rattle.pcj_term.specs.Reading.{◌>>=◌, after, is_plain, unescaped, printed_byte, with_front, text_at}
@@ -30,9 +32,9 @@ pub with_front-nil : (parts : Option (List ℕ × List ℕ)) → with_front [] p
 with_front-nil None = refl
 with_front-nil (Some parts) = refl
 
-pub with_front-push : (front : List ℕ) (byte : ℕ) (parts : Option (List ℕ × List ℕ)) → with_front (front ++ byte ∷ []) parts ≡ with_front front (with_front (byte ∷ []) parts)
-with_front-push front byte None = refl
-with_front-push front byte (Some parts) = ap (λ (t : List ℕ). Some (t, parts.1)) (append_assoc front (byte ∷ []) parts.0)
+pub with_front-append : (front more : List ℕ) (parts : Option (List ℕ × List ℕ)) → with_front (front ++ more) parts ≡ with_front front (with_front more parts)
+with_front-append front more None = refl
+with_front-append front more (Some parts) = ap (λ (t : List ℕ). Some (t, parts.1)) (append_assoc front more parts.0)
 
 abbrev Steps : List ℕ → ℕ → List ℕ → Type 0
 Steps bytes byte rest = (text_at bytes ≡ with_front (byte ∷ []) (text_at rest)) × (length rest < length bytes)
@@ -169,3 +171,54 @@ text_again (byte ∷ text) rest =
     let end : List ℕ = escaped text ++ 34 ∷ rest in
     let step = printed_step (escape_of byte ++ end) (byte, end) (printed_again byte end) in
     ap text_at (append_assoc (escape_of byte) (escaped text) (34 ∷ rest)) ∙ step.0 ∙ ap (with_front (byte ∷ [])) (text_again text rest)
+
+-- ---- bytes at the front that stand for themselves
+
+pub escaped_front : (bytes : List ℕ) → escaped bytes ≡ take (prefix_len is_plain bytes) bytes ++ escaped (drop (prefix_len is_plain bytes) bytes)
+escaped_front [] = refl
+escaped_front (byte ∷ bytes) = by (is_plain byte) refl (escaped_front bytes)
+  where
+    by : (v : Bool) → is_plain byte ≡ v → escaped bytes ≡ take (prefix_len is_plain bytes) bytes ++ escaped (drop (prefix_len is_plain bytes) bytes) →
+        escaped (byte ∷ bytes) ≡ take (prefix_len is_plain (byte ∷ bytes)) (byte ∷ bytes) ++ escaped (drop (prefix_len is_plain (byte ∷ bytes)) (byte ∷ bytes))
+    by true is later = let one : 1 + prefix_len is_plain bytes ≡ suc (prefix_len is_plain bytes) = omega arith in rw (is, plain_itself byte is, one) (ap (λ (t : List ℕ). byte ∷ t) later)
+    by false is later = rw is refl
+
+text_plain : (byte : ℕ) (bytes : List ℕ) → is_plain byte ≡ true → text_at (byte ∷ bytes) ≡ with_front (byte ∷ []) (text_at bytes)
+unfolding text_at
+text_plain byte [] is = let parts = plain_parts byte is in rw parts.quote refl
+text_plain byte (next ∷ bytes) is = let parts = plain_parts byte is in rw (parts.quote, parts.backslash, is) refl
+
+pub text_front : (bytes : List ℕ) → text_at bytes ≡ with_front (take (prefix_len is_plain bytes) bytes) (text_at (drop (prefix_len is_plain bytes) bytes))
+text_front [] = sym (with_front-nil (text_at []))
+text_front (byte ∷ bytes) = by (is_plain byte) refl (text_front bytes)
+  where
+    by : (v : Bool) → is_plain byte ≡ v → text_at bytes ≡ with_front (take (prefix_len is_plain bytes) bytes) (text_at (drop (prefix_len is_plain bytes) bytes)) →
+        text_at (byte ∷ bytes) ≡ with_front (take (prefix_len is_plain (byte ∷ bytes)) (byte ∷ bytes)) (text_at (drop (prefix_len is_plain (byte ∷ bytes)) (byte ∷ bytes)))
+    by true is later = let one : 1 + prefix_len is_plain bytes ≡ suc (prefix_len is_plain bytes) = omega arith in rw (is, one) (text_plain byte bytes is ∙ ap (with_front (byte ∷ [])) later ∙ sym (with_front-append (byte ∷ []) (take (prefix_len is_plain bytes) bytes) (text_at (drop (prefix_len is_plain bytes) bytes))))
+    by false is later = rw is (sym (with_front-nil (text_at (byte ∷ bytes))))
+
+-- ---- a run that stands for itself, and what follows it
+
+pub first_and_rest : (bytes : List ℕ) → 1 ≤ length bytes → bytes ≡ get_or bytes 0 0 ∷ take (length bytes - 1) (drop 1 bytes)
+first_and_rest [] some = absurd (omega arith)
+first_and_rest (byte ∷ bytes) some = let all : length (byte ∷ bytes) - 1 ≡ length bytes = omega arith in rw all (ap (λ (t : List ℕ). byte ∷ t) (sym (take_all (length bytes) bytes (omega arith))))
+
+pub escaped_cut : (bytes plain end : List ℕ) → plain ≡ take (prefix_len is_plain bytes) bytes → end ≡ drop (prefix_len is_plain bytes) bytes → plain ++ escaped end ≡ escaped bytes
+escaped_cut bytes plain end front back = rw (front, back) (sym (escaped_front bytes))
+
+pub escaped_step : (out bytes plain end following : List ℕ) (byte : ℕ) → plain ≡ take (prefix_len is_plain bytes) bytes → end ≡ drop (prefix_len is_plain bytes) bytes → end ≡ byte ∷ following → ((out ++ plain) ++ escape_of byte) ++ escaped following ≡ out ++ escaped bytes
+escaped_step out bytes plain end following byte front back parts =
+    append_assoc (out ++ plain) (escape_of byte) (escaped following)
+    ∙ append_assoc out plain (escape_of byte ++ escaped following)
+    ∙ ap (λ (t : List ℕ). out ++ (plain ++ escaped t)) (sym parts)
+    ∙ ap (λ (t : List ℕ). out ++ t) (escaped_cut bytes plain end front back)
+
+pub text_cut : (bytes plain end : List ℕ) → plain ≡ take (prefix_len is_plain bytes) bytes → end ≡ drop (prefix_len is_plain bytes) bytes → with_front plain (text_at end) ≡ text_at bytes
+text_cut bytes plain end front back = rw (front, back) (sym (text_front bytes))
+
+pub escaped_last : (out bytes plain end : List ℕ) → plain ≡ take (prefix_len is_plain bytes) bytes → end ≡ drop (prefix_len is_plain bytes) bytes → length end < 1 → out ++ plain ≡ out ++ escaped bytes
+escaped_last out bytes plain [] front back none = ap (λ (t : List ℕ). out ++ t) (sym (append-nil plain) ∙ escaped_cut bytes plain [] front back)
+escaped_last out bytes plain (byte ∷ end) front back none = absurd (omega arith)
+
+pub step_shorter : (bytes end : List ℕ) (n : ℕ) → end ≡ drop n bytes → 1 ≤ length end → length (take (length end - 1) (drop 1 end)) < length bytes
+step_shorter bytes end n back some = omega (arith, ap length back, length-drop n bytes, ap length (first_and_rest end some))

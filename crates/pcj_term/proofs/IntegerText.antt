@@ -44,7 +44,7 @@ ascii_digits [] d i = omega arith
 ascii_digits (c ∷ cs) d zero = omega (arith, digit_from_value c d.0)
 ascii_digits (c ∷ cs) d (suc i) = ascii_digits cs d.1 i
 
-ascii_more : (c : ℕ) (cs : List ℕ) → c < 128 → IsAscii cs → IsAscii (c ∷ cs)
+pub ascii_more : (c : ℕ) (cs : List ℕ) → c < 128 → IsAscii cs → IsAscii (c ∷ cs)
 ascii_more c cs low h zero = low
 ascii_more c cs low h (suc i) = h i
 

@@ -2,6 +2,7 @@ use Rattle.std.proofs.Common.{◌≡◌, ℕ, Bool, true, false, not, cond, List
 use Rattle.std.specs.List.{filter, list_any}
 use Rattle.std.specs.Prelude.{◌&&◌, ◌||◌}
 use Rattle.std.specs.Bool.{Decides}
+use Rattle.std.proofs.lemmas.Bool.{and_parts}
 use Rattle.std.proofs.lemmas.List.Elements.{filter-append}
 use Rattle.std.proofs.lemmas.Slice.Eq.{slice_eq-Decides}
 use Rattle.std.proofs.lemmas.Bool.Decides.{Decides-eqb}
@@ -14,10 +15,6 @@ use Rattle.pcj_term.specs.Triple.{same_bytes, same_kind, same_term, same_triple,
 
 same_bytes-Decides : (a b : List ℕ) → Decides (same_bytes a b) (a ≡ b)
 same_bytes-Decides a b = slice_eq-Decides Decides-eqb a b (same_bytes a b) refl
-
-both : (a b : Bool) → a && b ≡ true → (a ≡ true) × (b ≡ true)
-both true b h = (refl, h)
-both false b h = (cc)
 
 pub both_true : {a b : Bool} → a ≡ true → b ≡ true → a && b ≡ true
 both_true p q = rw (p, q) refl
@@ -44,7 +41,7 @@ same_term_true (Iri a) (Blank m b) h = cc
 same_term_true (Iri a) (Literal b l) h = cc
 same_term_true (Blank n a) (Iri b) h = cc
 same_term_true (Blank n a) (Blank m b) h =
-    let parts = both _ _ h in
+    let parts = and_parts _ _ h in
     let loads : n ≡ m = (Decides-eqb n m).0 parts.0 in
     let labels : a ≡ b = (same_bytes-Decides a b).0 parts.1 in
     cc
@@ -52,7 +49,7 @@ same_term_true (Blank n a) (Literal b l) h = cc
 same_term_true (Literal a k) (Iri b) h = cc
 same_term_true (Literal a k) (Blank m b) h = cc
 same_term_true (Literal a k) (Literal b l) h =
-    let parts = both _ _ h in
+    let parts = and_parts _ _ h in
     let texts : a ≡ b = (same_bytes-Decides a b).0 parts.0 in
     let kinds : k ≡ l = same_kind_true k l parts.1 in
     cc
@@ -67,8 +64,8 @@ triple_of s p o = record { subject = s; predicate = p; object = o }
 
 pub same_triple_true : (a b : Triple) → same_triple a b ≡ true → a ≡ b
 same_triple_true a b h =
-    let outer = both _ _ h in
-    let inner = both _ _ outer.0 in
+    let outer = and_parts _ _ h in
+    let inner = and_parts _ _ outer.0 in
     ap (λ (s : Term). triple_of s a.predicate a.object) (same_term_true _ _ inner.0)
     ∙ ap (λ (p : Term). triple_of b.subject p a.object) (same_term_true _ _ inner.1)
     ∙ ap (λ (o : Term). triple_of b.subject b.predicate o) (same_term_true _ _ outer.1)

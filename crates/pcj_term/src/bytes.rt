@@ -79,6 +79,14 @@ impl Bytes {
         Ok(())
     }
 
+    /// Makes room for more bytes, so that adding that many asks for no memory.
+    pub(crate) fn reserve(&mut self, additional: usize) -> Result<(), Memory>
+        ensures { self.new ≡ self.old }
+    {
+        self.bytes.reserve(additional)?;
+        Ok(())
+    }
+
     /// How many bytes there are.
     pub fn len(&self) -> usize
         ensures { result ≡ length self.now }

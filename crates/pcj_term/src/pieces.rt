@@ -1,6 +1,7 @@
-ghost use Rattle.std.specs.Prelude.{◌≡◌};
+ghost use Rattle.std.specs.Prelude.{◌≡◌, take, drop};
+ghost use Rattle.std.specs.List.{prefix_len};
 ghost use Rattle.std.specs.Option.{option_map, option_copied};
-ghost use Rattle.pcj_term.specs.Reading.{after, before, cut, iri_of, is_canonical, number_of};
+ghost use Rattle.pcj_term.specs.Reading.{after, before, cut, iri_of, is_canonical, is_plain, number_of};
 
 use crate::iri::is_absolute_iri;
 
@@ -31,6 +32,29 @@ pub(crate) fn cut(bytes: &[u8], byte: u8) -> Option<(&[u8], &[u8])>
     let at = bytes.iter().position(|other| *other == byte)?;
     let (front, end) = bytes.split_at(at);
     Some((front, after(end, byte)?))
+}
+
+/// What stands before the first byte that isn't printed as it is, and what stands from there on.
+pub(crate) fn cut_plain(bytes: &[u8]) -> (&[u8], &[u8])
+    ensures front { result.0.now ≡ take (prefix_len is_plain bytes.now) bytes.now }
+    ensures end { result.1.now ≡ drop (prefix_len is_plain bytes.now) bytes.now }
+{
+    bytes.split_at(plain_len(bytes))
+}
+
+/// How many bytes stand before the first that isn't printed as it is.
+fn plain_len(bytes: &[u8]) -> usize
+    ensures { result ≡ prefix_len is_plain bytes.now }
+{
+    bytes.iter().take_while(|byte| is_plain(**byte)).count()
+}
+
+/// Whether a byte is printed as it is.
+#[tactic(auto, unfolding(crate::specs::Reading::is_plain))]
+pub(crate) fn is_plain(byte: u8) -> bool
+    ensures { result ≡ is_plain byte }
+{
+    !matches!(byte, b'\t' | b'\n' | b'\r' | b'"' | b'\\')
 }
 
 /// An absolute IRI without its brackets, where the bytes are one in brackets.

@@ -1,6 +1,7 @@
 ghost use Rattle.std.specs.Prelude.{◌≡◌, ◌++◌, IfOk, OnOk};
 ghost use Rattle.pcj_term.specs.Term.{printed, bracketed, node_name, quoted, suffix_of, escaped, escape_of};
 
+use crate::pieces::{cut_plain, is_plain};
 use crate::{Bytes, Kind, Memory, Term};
 use std::alloc::Global;
 
@@ -27,6 +28,7 @@ pub fn push_term(alloc: Global, out: &mut Bytes, term: &Term) -> Result<(), Memo
 fn push_iri(out: &mut Bytes, iri: &Bytes) -> Result<(), Memory>
     ensures { OnOk result (out.new ≡ out.old ++ bracketed iri.now) }
 {
+    out.reserve(iri.len().saturating_add(2))?;
     out.push(b'<')?;
     out.extend_from_slice(iri.as_slice())?;
     out.push(b'>')
@@ -36,6 +38,7 @@ fn push_blank(alloc: Global, out: &mut Bytes, load: u64, label: &Bytes) -> Resul
     ensures { OnOk result (out.new ≡ out.old ++ node_name load label.now) }
 {
     let name = format!(in alloc; "_:t{load}x")?;
+    out.reserve(name.len().saturating_add(label.len()))?;
     out.extend_from_slice(name.as_bytes())?;
     out.extend_from_slice(label.as_slice())
 }
@@ -43,19 +46,41 @@ fn push_blank(alloc: Global, out: &mut Bytes, load: u64, label: &Bytes) -> Resul
 fn push_literal(out: &mut Bytes, text: &Bytes, kind: &Kind) -> Result<(), Memory>
     ensures { OnOk result (out.new ≡ out.old ++ quoted text.now ++ suffix_of kind.now) }
 {
+    out.reserve(escaped_len(text.as_slice()).saturating_add(suffix_len(kind)))?;
     out.push(b'"')?;
     push_escaped(out, text.as_slice())?;
     out.push(b'"')?;
     push_suffix(out, kind)
 }
 
+/// How many bytes a text takes between its quotes, or the most that can be said.
+fn escaped_len(text: &[u8]) -> usize {
+    let escapes = text.iter().filter(|byte| !is_plain(**byte)).count();
+    text.len().saturating_add(escapes)
+}
+
+/// How many bytes a literal takes besides its text, or the most that can be said.
+fn suffix_len(kind: &Kind) -> usize {
+    match kind {
+        Kind::Plain => 2,
+        Kind::Lang(tag) => tag.len().saturating_add(3),
+        Kind::Typed(datatype) => datatype.len().saturating_add(6),
+    }
+}
+
 fn push_escaped(out: &mut Bytes, text: &[u8]) -> Result<(), Memory>
     ensures { OnOk result (out.new ≡ out.old ++ escaped text.now) }
 {
-    for byte in text {
+    let mut rest = text;
+    loop {
+        let (plain, end) = cut_plain(rest);
+        out.extend_from_slice(plain)?;
+        let [byte, following @ ..] = end else {
+            return Ok(());
+        };
         push_escape(out, *byte)?;
+        rest = following;
     }
-    Ok(())
 }
 
 fn push_escape(out: &mut Bytes, byte: u8) -> Result<(), Memory>

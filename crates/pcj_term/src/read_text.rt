@@ -2,7 +2,7 @@ ghost use Rattle.std.specs.Prelude.{◌≡◌, IfOk};
 ghost use Rattle.std.specs.Option.{option_map};
 ghost use Rattle.pcj_term.specs.Reading.{is_plain, unescaped, printed_byte, text_at};
 
-use crate::pieces::after;
+use crate::pieces::{after, cut_plain, is_plain};
 use crate::{Bytes, Memory};
 use std::alloc::Global;
 
@@ -11,10 +11,13 @@ pub(crate) fn text_at(alloc: Global, bytes: &[u8]) -> Result<Option<(Bytes, &[u8
     ensures { IfOk result (λ parts. option_map (λ parts. (parts.0, parts.1.now)) parts ≡ text_at bytes.now) }
 {
     let mut text = Vec::with_capacity(alloc, bytes.len())?;
-    let mut rest = bytes;
+    let (plain, mut rest) = cut_plain(bytes);
+    text.extend_from_slice(plain)?;
     while let Some((byte, following)) = printed_byte(rest) {
         text.push(byte)?;
-        rest = following;
+        let (plain, end) = cut_plain(following);
+        text.extend_from_slice(plain)?;
+        rest = end;
     }
     match after(rest, b'"') {
         Some(following) => Ok(Some((Bytes::from_vec(text), following))),
@@ -31,14 +34,6 @@ fn printed_byte(bytes: &[u8]) -> Option<(u8, &[u8])>
         [byte, rest @ ..] if is_plain(*byte) => Some((*byte, rest)),
         _ => None,
     }
-}
-
-/// Whether a byte is printed as it is.
-#[tactic(auto, unfolding(crate::specs::Reading::is_plain))]
-fn is_plain(byte: u8) -> bool
-    ensures { result ≡ is_plain byte }
-{
-    !matches!(byte, b'\t' | b'\n' | b'\r' | b'"' | b'\\')
 }
 
 /// The byte that a byte after a backslash stands for.

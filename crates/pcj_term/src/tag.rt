@@ -43,11 +43,5 @@ fn has_letters_and_digits_alone(bytes: &[u8]) -> bool
 pub fn is_lower_case(bytes: &[u8]) -> bool
     ensures { result ≡ is_lower_case bytes.now }
 {
-    bytes.iter().all(|byte| is_no_capital(*byte))
-}
-
-fn is_no_capital(byte: u8) -> bool
-    ensures { result ≡ not (is_capital byte) }
-{
-    !byte.is_ascii_uppercase()
+    bytes.iter().all(|byte| !byte.is_ascii_uppercase())
 }

@@ -53,6 +53,19 @@ fn terms_print_as_n_triples(rt: HostRuntime) -> Result<(), Fail> {
 }
 
 #[test]
+fn terms_are_printed_behind_what_stands(rt: HostRuntime) -> Result<(), Fail> {
+    let alloc = rt.alloc();
+    let mut out = Bytes::from_slice(alloc, b"row ")?;
+    let mut want = Bytes::from_slice(alloc, b"row ")?;
+    for (term, text) in &printed_terms(alloc)? {
+        push_term(alloc, &mut out, term)?;
+        want.extend_from_slice(text)?;
+    }
+    assert_eq!(rt; out.as_slice(), want.as_slice());
+    Ok(())
+}
+
+#[test]
 fn iris_are_absolute_and_without_forbidden_bytes(rt: HostRuntime) {
     let table = [
         (b"http://e.org/a".as_slice(), true),
@@ -111,9 +124,11 @@ fn items_hold_what_was_pushed(rt: HostRuntime) -> Result<(), Fail> {
         (2, Some(6), None)
     );
     assert_eq!(rt;
-        Items::from_vec(list.into_vec()).as_slice(),
-        copy.as_slice()
+        Items::from_vec(copy.into_vec()).as_slice(),
+        list.as_slice()
     );
+    list.insert(1, 7)?;
+    assert_eq!(rt; list.as_slice(), [5, 7, 6].as_slice());
     assert_eq!(rt; Some(4u64).try_clone(alloc)?, Some(4));
     Ok(())
 }
