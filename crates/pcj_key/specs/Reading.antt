@@ -1,5 +1,5 @@
 -- Reading a key from left to right.
-use Rattle.std.specs.Prelude.{ℕ, Bool, true, false, List, [], ◌∷◌, ◌++◌, ◌==◌, Option, Some, None, if◌then◌else◌}
+use Rattle.std.specs.Prelude.{ℕ, Bool, true, false, List, [], ◌∷◌, ◌++◌, ◌==◌, ◌&&◌, nat_lt, Option, Some, None, if◌then◌else◌}
 use Rattle.std.specs.Option.{option_map}
 
 -- bytes put before a part
@@ -16,4 +16,18 @@ first_part false (byte ∷ bytes) =
 first_part true (byte ∷ bytes) =
     if byte == 1 then before (0 ∷ []) (first_part false bytes) else
     if byte == 2 then before (1 ∷ []) (first_part false bytes) else
+    None
+
+-- a byte of a part that stands for itself in a key
+abbrev pub is_plain : ℕ → Bool
+is_plain byte = nat_lt 1 byte
+
+-- the first byte of a part by what stands for it in a key, and what follows that
+abbrev pub key_byte : List ℕ → Option (ℕ × List ℕ)
+key_byte [] = None
+key_byte (byte ∷ []) = if is_plain byte then Some (byte, []) else None
+key_byte (byte ∷ next ∷ bytes) =
+    if is_plain byte then Some (byte, next ∷ bytes) else
+    if byte == 1 && next == 1 then Some (0, bytes) else
+    if byte == 1 && next == 2 then Some (1, bytes) else
     None

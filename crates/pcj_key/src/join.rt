@@ -2,6 +2,7 @@ ghost use Rattle.std.specs.Prelude.{◌≡◌, [], ◌∷◌, ◌++◌, IfOk, On
 ghost use Rattle.std.specs.List.{flat_map};
 ghost use Rattle.pcj_key.specs.Key.{byte_key, key_of};
 
+use crate::plain::{cut_plain, is_plain};
 use pcj_term::{Bytes, Memory};
 use std::alloc::Global;
 
@@ -28,21 +29,24 @@ fn key_len(parts: &[Bytes]) -> usize {
 
 /// How many bytes a part takes in a key, its end included.
 fn part_len(part: &[u8]) -> usize {
-    let mut len: usize = 1;
-    for byte in part {
-        len = len.saturating_add(if *byte <= 1 { 2 } else { 1 });
-    }
-    len
+    let escapes = part.iter().filter(|byte| !is_plain(**byte)).count();
+    part.len().saturating_add(escapes).saturating_add(1)
 }
 
 fn push_part(key: &mut Vec<u8>, part: &[u8]) -> Result<(), Memory>
     ensures { OnOk result (key.new.items ≡ key.old.items ++ flat_map byte_key part.now ++ 0 ∷ []) }
 {
-    for byte in part {
+    let mut rest = part;
+    loop {
+        let (plain, end) = cut_plain(rest);
+        key.extend_from_slice(plain)?;
+        let [byte, following @ ..] = end else {
+            key.push(0)?;
+            return Ok(());
+        };
         push_byte(key, *byte)?;
+        rest = following;
     }
-    key.push(0)?;
-    Ok(())
 }
 
 fn push_byte(key: &mut Vec<u8>, byte: u8) -> Result<(), Memory>

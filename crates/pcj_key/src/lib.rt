@@ -6,6 +6,7 @@
 
 mod join;
 mod order;
+mod plain;
 mod prefix;
 mod split;
 

@@ -1,6 +1,9 @@
-use Rattle.std.proofs.Common.{◌≡◌, false, drop}
+use Rattle.std.proofs.Common.{◌≡◌, false, length}
 use Rattle.pcj_key.specs.Reading.{first_part, before}
 use Rattle.pcj_key.proofs.split.first_part.Given as goal
 
-abbrev pub invariant-loop-at : goal.invariant-loop-at
-invariant-loop-at l = before l.part (first_part l.is_open (drop l.at l.key)) ≡ first_part false l.key
+abbrev pub invariant-loop-byte : goal.invariant-loop-byte
+invariant-loop-byte l = before l.part.items (first_part false l.rest) ≡ first_part false l.fn.key
+
+abbrev pub decreases-loop-byte : goal.decreases-loop-byte
+decreases-loop-byte l = length l.rest
