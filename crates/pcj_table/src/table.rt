@@ -50,7 +50,7 @@ pub trait RowTable {
         ensures calls { made self.new ≡ counted (made self.old) };
 
     /// Carries out the updates in order on the key's row, where all the conditions hold of it. `Memory` comes
-    /// also where the table would have 2^64 keys.
+    /// also where the table would have 2^64 keys, so an applied mutation leaves fewer.
     fn mutate(
         &mut self,
         key: &[u8],
@@ -59,6 +59,7 @@ pub trait RowTable {
     ) -> Result<Mutated, TableError>
         ensures done { IfOk result (λ done. Mutates (rows self.old) key.now conds.now updates.now done (rows self.new)) }
         ensures err { OnErr result (rows self.new ≡ rows self.old) }
+        ensures keys { map.len (rows self.new) < 2 ^ 64 }
         ensures cause { HasTableCause (failures self.old) (failures self.new) result }
         ensures calls { made self.new ≡ counted (made self.old) };
 

@@ -38,7 +38,7 @@ fn full_row(alloc: Global) -> Result<Row, Memory> {
 }
 
 #[test]
-fn conditions_ask_of_locks_versions_and_numbers(rt: HostRuntime) -> Result<(), Fail> {
+fn conditions_hold_alone_and_in_pairs(rt: HostRuntime) -> Result<(), Fail> {
     let alloc = rt.alloc();
     let empty = Row::new(alloc);
     let full = full_row(alloc)?;
@@ -60,7 +60,13 @@ fn conditions_ask_of_locks_versions_and_numbers(rt: HostRuntime) -> Result<(), F
             (cond.holds(&empty), cond.holds(&full)),
             (of_empty, of_full)
         );
-        assert_eq!(rt; full.satisfies(&[Cond::LockIs(3), cond]), of_full);
+        for (other, other_of_empty, other_of_full) in table {
+            let both = [cond, other];
+            assert_eq!(rt;
+                (empty.satisfies(&both), full.satisfies(&both)),
+                (of_empty && other_of_empty, of_full && other_of_full)
+            );
+        }
         assert!(rt; cond.try_clone(alloc)? == cond);
     }
     assert!(rt; full.satisfies(&[]));
