@@ -13,7 +13,7 @@ use Rattle.pcj_memtable.specs.Entries.{key_cmp, entries_of, keys_rise, table_of}
 use Rattle.pcj_memtable.specs.Place.{IsRowAt, IsGapAt}
 use Rattle.pcj_memtable.proofs.Places.{back, less_is}
 use Rattle.pcj_memtable.proofs.Edits.{itself, equals}
-use Rattle.pcj_memtable.proofs.Tables.{entries_are}
+use Rattle.pcj_memtable.proofs.Tables.{is_true, entries_are}
 
 -- rows above a low key are above and from any key at or below it, and none is below it
 above_low : (key low : Key) (rows : List Found) → key_cmp key low ≡ Less → below_all key_cmp low (entries_of rows) ≡ true → below_all key_cmp key (entries_of rows) ≡ true
@@ -112,13 +112,9 @@ count_among p q (row ∷ rows) = by (p row.key) (q row.row) refl refl (count_amo
 
 -- ---- parts of the rows rise too
 
-from_T : (b : Bool) → T b → b ≡ true
-from_T true h = refl
-from_T false h = absurd h
-
 pub rises_where : (p : Key → Bool) (rows : List Found) → keys_rise rows ≡ true → keys_rise (filter (λ row. p row.key) rows) ≡ true
 rises_where p rows sorted =
-    from_T _ (subst (λ es. T (finmap.is_sorted key_cmp es)) (sym (filter_entries p rows)) (is_sorted-where_key key_cmp p (entries_of rows) (subst T (sym sorted) tt)))
+    is_true _ (subst (λ es. T (finmap.is_sorted key_cmp es)) (sym (filter_entries p rows)) (is_sorted-where_key key_cmp p (entries_of rows) (subst T (sym sorted) tt)))
 
 -- what is below an end among what is above a start lies between them
 pub between : (p q : Key → Bool) (rows : List Found) → filter (λ row. q row.key) (filter (λ row. p row.key) rows) ≡ filter (λ row. p row.key && q row.key) rows

@@ -22,7 +22,7 @@ use Rattle.pcj_memtable.proofs.Edits.{find_row, find_gap, is_other, remove_keeps
 holds : (b : Bool) → b ≡ true → T b
 holds b e = subst T (sym e) tt
 
-is_true : (b : Bool) → T b → b ≡ true
+pub is_true : (b : Bool) → T b → b ≡ true
 is_true true h = refl
 is_true false h = absurd h
 
@@ -59,9 +59,9 @@ equal_is Greater e = absurd cc
 antisymmetric : finmap.IsAntisymmetric key_cmp
 antisymmetric = slice_cmp-IsAntisymmetric nat_cmp-IsAntisymmetric
 
-turned : {A : Type 0} (b : Bool) (x y : A) → cond (not b) x y ≡ cond b y x
-turned true x y = refl
-turned false x y = refl
+cond_not : {A : Type 0} (b : Bool) (x y : A) → cond (not b) x y ≡ cond b y x
+cond_not true x y = refl
+cond_not false x y = refl
 
 flipped : (key other : Key) → eq_by_cmp key_cmp key other ≡ eq_by_cmp key_cmp other key
 flipped key other = ap is_eq (nat_list_cmp_total.antisymm key other) ∙ by (key_cmp other key)
@@ -86,7 +86,7 @@ with_remove old at key row sorted none is = record { sorted = sorted'; table = t
 
     gets : (q : Key) → finmap.get (table_of (remove old at)) q ≡ finmap.get (finmap.remove (table_of old) key) q
     gets q = got (remove old at) q sorted' ∙ ap (find key_cmp q) e ∙ find-where_key key_cmp (is_other key) q (alike q) (entries_of old)
-        ∙ turned (eq_by_cmp key_cmp key q) _ _ ∙ ap (λ b. cond b None (find key_cmp q (entries_of old))) (flipped key q)
+        ∙ cond_not (eq_by_cmp key_cmp key q) _ _ ∙ ap (λ b. cond b None (find key_cmp q (entries_of old))) (flipped key q)
         ∙ ap (cond (eq_by_cmp key_cmp q key) None) (sym (got old q sorted)) ∙ sym (get-remove nat_list_cmp_total (table_of old) key q)
 
     table : table_of (remove old at) ≡ with_row (table_of old) key row

@@ -1,4 +1,5 @@
-ghost use Rattle.std.specs.Prelude.{◌≡◌, true, [], ◌∷◌, is_err, IfOk, IfErr, OnErr};
+ghost use Rattle.std.specs.Prelude.{◌≡◌, ◌<◌, ◌^◌, true, false, [], ◌∷◌, is_err, IsOk, IfOk, IfErr, OnErr};
+ghost use Rattle.std.specs.FinMap as map;
 ghost use Rattle.pcj_io.specs.Calls.{IsNextCall, no_calls};
 ghost use Rattle.pcj_table.specs.Calls.{HasTableCause, has_failed, counted};
 ghost use Rattle.pcj_table.specs.Row.{conds_hold};
@@ -63,6 +64,7 @@ impl RowTable for MemTable {
         ensures cause { HasTableCause self.old.calls.faults self.new.calls.faults result }
         ensures calls { self.new.calls.made ≡ counted self.old.calls.made }
         ensures next { IsNextCall self.old.calls self.new.calls (has_failed result) }
+        ensures never { self.old.calls.failing ≡ [] → has_failed result ≡ false }
     {
         begin(&mut self.calls)?;
         Ok(row_of(self.alloc, &self.rows, key)?)
@@ -74,6 +76,7 @@ impl RowTable for MemTable {
         ensures cause { HasTableCause self.old.calls.faults self.new.calls.faults result }
         ensures calls { self.new.calls.made ≡ counted self.old.calls.made }
         ensures next { IsNextCall self.old.calls self.new.calls (has_failed result) }
+        ensures never { self.old.calls.failing ≡ [] → has_failed result ≡ false }
     {
         begin(&mut self.calls)?;
         Ok(next_seen(self.alloc, &self.rows, after, end, at)?)
@@ -85,6 +88,7 @@ impl RowTable for MemTable {
         ensures cause { HasTableCause self.old.calls.faults self.new.calls.faults result }
         ensures calls { self.new.calls.made ≡ counted self.old.calls.made }
         ensures next { IsNextCall self.old.calls self.new.calls (has_failed result) }
+        ensures never { self.old.calls.failing ≡ [] → has_failed result ≡ false }
     {
         begin(&mut self.calls)?;
         Ok(next_locked(self.alloc, &self.rows, after)?)
@@ -97,6 +101,7 @@ impl RowTable for MemTable {
         ensures calls { self.new.calls.made ≡ counted self.old.calls.made }
         ensures next { IsNextCall self.old.calls self.new.calls (has_failed result) }
         ensures memory { IfErr result (λ e. e ≡ Failed) }
+        ensures never { self.old.calls.failing ≡ [] → IsOk result }
     {
         begin(&mut self.calls)?;
         Ok(count_between(&self.rows, from, end) as u64)
@@ -110,10 +115,13 @@ impl RowTable for MemTable {
     ) -> Result<Mutated, TableError>
         ensures done { IfOk result (λ done. Mutates (table_of self.old.rows) key.now conds.now updates.now done (table_of self.new.rows)) }
         ensures err { OnErr result (table_of self.new.rows ≡ table_of self.old.rows) }
+        ensures keys { map.len (table_of self.new.rows) < 2 ^ 64 }
         ensures cause { HasTableCause self.old.calls.faults self.new.calls.faults result }
         ensures calls { self.new.calls.made ≡ counted self.old.calls.made }
         ensures next { IsNextCall self.old.calls self.new.calls (has_failed result) }
+        ensures never { self.old.calls.failing ≡ [] → has_failed result ≡ false }
         ensures drops { updates.now ≡ DropLock ∷ [] → conds_hold (row_at (table_of self.old.rows) key.now) conds.now ≡ true → IfErr result (λ e. e ≡ Failed) }
+        ensures sure { self.old.calls.failing ≡ [] → updates.now ≡ DropLock ∷ [] → conds_hold (row_at (table_of self.old.rows) key.now) conds.now ≡ true → IsOk result }
     {
         begin(&mut self.calls)?;
         Ok(mutate(self.alloc, &mut self.rows, key, conds, updates)?)
@@ -133,6 +141,7 @@ fn begin(calls: &mut FailingCalls) -> Result<(), TableError>
     ensures next { IsNextCall calls.old calls.new (is_err result) }
     ensures cause { HasTableCause calls.old.faults calls.new.faults result }
     ensures failed { IfErr result (λ e. e ≡ Failed) }
+    ensures never { calls.old.failing ≡ [] → IsOk result }
 {
     if calls.next_fails() {
         return Err(TableError::Failed);

@@ -56,7 +56,8 @@ fn change(
         drop_lock(rows, at, key);
         return Ok(Mutated::Applied);
     }
-    let new = updated(alloc, row, updates)?;
+    let copy = row.try_clone(alloc)?;
+    let new = updated(alloc, copy, updates)?;
     put_row(rows, at, key, new);
     Ok(Mutated::Applied)
 }
@@ -85,7 +86,7 @@ fn create(
     if only_drops_lock(updates) {
         return Ok(Mutated::Applied);
     }
-    let new = updated(alloc, &row, updates)?;
+    let new = updated(alloc, row, updates)?;
     add_row(alloc, rows, at, key, new)?;
     Ok(Mutated::Applied)
 }
@@ -147,11 +148,11 @@ fn add_row(
     Ok(())
 }
 
-/// A row with the updates carried out in order, as a copy.
-fn updated(alloc: Global, row: &Row, updates: &[Update]) -> Result<Row, Memory>
-    ensures { IfOk result (λ new. new ≡ updated_all row.now updates.now) }
+/// The row with copies of the updates carried out on it in order.
+fn updated(alloc: Global, row: Row, updates: &[Update]) -> Result<Row, Memory>
+    ensures { IfOk result (λ new. new ≡ updated_all row updates.now) }
 {
-    let mut new = row.try_clone(alloc)?;
+    let mut new = row;
     for update in updates {
         new.update(update.try_clone(alloc)?)?;
     }

@@ -17,7 +17,7 @@ pub returns-clause-done : goal.returns-clause-done
 returns-clause-done c =
     let row : row_at (table_of c.args.rows.now.items) c.args.key.now ≡ c.index.result.now.row =
     row_found c.args.key.now c.args.rows.now.items c.args.at c.index.result.now c.requires.sorted c.requires.place ∙ ap (λ (f : Found). f.row) (sym c.index.ensures) in
-    (ap (λ r. conds_hold r c.args.conds.now) row ∙ sym c.satisfies.ensures ∙ c.if-not-satisfies.false, c.put_row.ensures.table ∙ ap (with_row (table_of c.args.rows.now.items) c.args.key.now) (c.in_ok-new.ensures ∙ ap (λ r. updated_all r c.args.updates.now) (sym row)))
+    (ap (λ r. conds_hold r c.args.conds.now) row ∙ sym c.satisfies.ensures ∙ c.if-not-satisfies.false, c.put_row.ensures.table ∙ ap (with_row (table_of c.args.rows.now.items) c.args.key.now) (c.in_ok-new.ensures ∙ ap (λ r. updated_all r c.args.updates.now) (c.in_ok-copy.ensures ∙ sym row)))
 
 pub returns-in_err-try_clone-clause-drops : goal.returns-in_err-try_clone-clause-drops
 returns-in_err-try_clone-clause-drops c updates holds =
