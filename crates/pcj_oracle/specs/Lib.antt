@@ -1,0 +1,5 @@
+pub mod Clock
+pub mod Draw
+pub mod Calls
+pub mod Run
+pub mod Law
