@@ -1,0 +1,4 @@
+pub mod Versions
+pub mod Rows
+pub mod Laws
+pub mod Choices
