@@ -5,7 +5,8 @@ use Rattle.std.proofs.lemmas.Bool.{or_parts, eqb-true, false_from_ne_true}
 use Rattle.std.proofs.lemmas.List.{take_all, drop_all}
 use Rattle.std.specs.Option.{unwrap_or}
 use Rattle.memchr.specs.Find.{IsFirstByte, is_byte2}
-use Rattle.pcj_ntriples.specs.Lines.{document_lines, after_end, begins_with}
+use Rattle.pcj_term.specs.Reading.{begins_with}
+use Rattle.pcj_ntriples.specs.Lines.{document_lines, after_end}
 
 -- the byte is LF or CR
 abbrev pub ends : ℕ → Bool

@@ -1,3 +1,9 @@
 pub mod FirstLine
-pub mod Reading
+pub mod Spelling
+pub mod Names
+pub mod Taken
+pub mod Says
+pub mod ReaderSteps
+pub mod NameSteps
+pub mod Loads
 pub mod Laws

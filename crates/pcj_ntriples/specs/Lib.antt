@@ -1,5 +1,10 @@
+pub mod Kind
 pub mod Lines
+pub mod Text
+pub mod TextReading
+pub mod Term
 pub mod Line
+pub mod LineReading
+pub mod Fault
 pub mod Document
-pub mod Reading
 pub mod ReadLine

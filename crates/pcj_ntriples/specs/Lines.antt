@@ -1,10 +1,7 @@
 -- The lines of a document.
-use Rattle.std.specs.Prelude.{ℕ, Bool, false, List, [], ◌∷◌, ◌==◌, ◌&&◌, drop, if◌then◌else◌}
+use Rattle.std.specs.Prelude.{ℕ, List, [], ◌∷◌, ◌==◌, ◌&&◌, drop, if◌then◌else◌}
 use Rattle.std.specs.List.{onto_first}
-
-abbrev pub begins_with : ℕ → List ℕ → Bool
-begins_with byte [] = false
-begins_with byte (first ∷ bytes) = first == byte
+use Rattle.pcj_term.specs.Reading.{begins_with}
 
 -- LF, CR or CR LF ends a line: a CR right before a LF belongs to the end that the LF makes.
 -- The last line's end may be missing, and an empty document has no line.

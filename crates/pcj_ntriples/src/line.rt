@@ -1,133 +1,100 @@
-ghost use Rattle.std.specs.Prelude.{◌≡◌, ◌==◌, IfOk};
-ghost use Rattle.std.specs.Option.{option_map, option_copied};
-ghost use Rattle.pcj_term.specs.Iri.{is_iri_text};
-ghost use Rattle.pcj_ntriples.specs.Line.{is_text, is_text_byte};
-ghost use Rattle.pcj_ntriples.specs.Reading.{after, cut, iri_at, text_at, object_at, triple_at, object_of, triple_of};
+ghost use Rattle.std.specs.Prelude.{◌≡◌, ℕ, Some, IfOk, IfErr, Ok, Err};
+ghost use Rattle.pcj_ntriples.specs.Line.{ends_line};
+ghost use Rattle.pcj_ntriples.specs.LineReading.{said_by, said_at, subject_at, predicate_at, object_at, dot_at};
+ghost use Rattle.pcj_ntriples.specs.Fault.{IsFault};
 
-use memchr::memchr;
-use pcj_term::{Bytes, Kind, Memory, Term, Triple, is_iri};
+use crate::fault::Fault;
+use crate::kind::NtKind;
+use crate::place::Place;
+use crate::reader::LineReader;
+use pcj_term::{Term, Triple};
 use std::alloc::Global;
 
-/// The parts of a triple's line, as they lie in it: without brackets and quotes.
-#[derive(Clone, Copy)]
-pub(crate) struct Parts<'a> {
-    pub(crate) subject: &'a [u8],
-    pub(crate) predicate: &'a [u8],
-    pub(crate) object: Object<'a>,
-}
-
-#[derive(Clone, Copy)]
-pub(crate) enum Object<'a> {
-    Iri(&'a [u8]),
-    Text(&'a [u8]),
-}
-
-impl Object<'_> {
-    /// A term of its own memory.
-    fn to_term(&self, alloc: Global) -> Result<Term, Memory>
-        ensures { IfOk result (λ term. term ≡ object_of self.now) }
-    {
-        match self {
-            Object::Iri(iri) => Ok(Term::Iri(Bytes::from_slice(alloc, iri)?)),
-            Object::Text(text) => Ok(Term::Literal {
-                text: Bytes::from_slice(alloc, text)?,
-                kind: Kind::Plain,
-            }),
-        }
-    }
-}
-
-impl Parts<'_> {
-    /// A triple of its own memory.
-    pub(crate) fn to_triple(&self, alloc: Global) -> Result<Triple, Memory>
-        ensures { IfOk result (λ triple. triple ≡ triple_of self.now) }
-    {
-        Ok(Triple {
-            subject: Term::Iri(Bytes::from_slice(alloc, self.subject)?),
-            predicate: Term::Iri(Bytes::from_slice(alloc, self.predicate)?),
-            object: self.object.to_term(alloc)?,
-        })
-    }
-}
-
-/// The parts of a line that says a triple. `None` comes for every other line, the empty one too.
-#[tactic(auto, unfolding(crate::specs::Reading::triple_at))]
-pub(crate) fn parts_of(line: &[u8]) -> Option<Parts<'_>>
-    ensures { option_map triple_of result ≡ triple_at line.now }
+/// What a line says: a triple, or nothing where it has blanks and a comment at most. Blank nodes carry the
+/// load's number.
+#[tactic(auto, unfolding(crate::specs::LineReading::said_at))]
+pub(crate) fn read_line(alloc: Global, load: u64, line: &[u8]) -> Result<Option<Triple>, Fault>
+    ensures said { IfOk result (λ said. said_at load line.now ≡ Ok said) }
+    ensures fault { IfErr result (λ fault. IsFault fault (said_at load line.now)) }
 {
-    let (subject, rest) = iri_at(line)?;
-    let (predicate, rest) = iri_at(after(rest, b' ')?)?;
-    let (object, rest) = object_at(after(rest, b' ')?)?;
-    if rest == b" .".as_slice() {
-        Some(Parts {
+    match str::from_utf8(line) {
+        Ok(text) => LineReader::new(text).line(alloc, load),
+        Err(_) => Err(Fault::Wrong(NtKind::NotUtf8)),
+    }
+}
+
+impl<'a> LineReader<'a> {
+    /// Takes the whole line.
+    #[tactic(auto, unfolding(crate::specs::LineReading::subject_at))]
+    fn line(&mut self, alloc: Global, load: u64) -> Result<Option<Triple>, Fault>
+        ensures said { IfOk result (λ said. said_by load self.old ≡ Ok said) }
+        ensures fault { IfErr result (λ fault. IsFault fault (said_by load self.old)) }
+    {
+        self.skip_blanks();
+        if self.ends_line() {
+            return Ok(None);
+        }
+        let subject = self.term(alloc, load, Place::Subject)?;
+        self.skip_blanks();
+        Ok(Some(self.after_subject(alloc, load, subject)?))
+    }
+
+    /// Takes what follows the subject and blanks.
+    #[tactic(auto, unfolding(crate::specs::LineReading::predicate_at))]
+    fn after_subject(&mut self, alloc: Global, load: u64, subject: Term) -> Result<Triple, Fault>
+        ensures said { IfOk result (λ triple. predicate_at load subject self.old ≡ Ok (Some triple)) }
+        ensures fault { IfErr result (λ fault. IsFault fault (predicate_at load subject self.old)) }
+    {
+        let predicate = self.term(alloc, load, Place::Predicate)?;
+        self.skip_blanks();
+        self.after_predicate(alloc, load, subject, predicate)
+    }
+
+    /// Takes what follows the predicate and blanks.
+    #[tactic(auto, unfolding(crate::specs::LineReading::object_at))]
+    fn after_predicate(
+        &mut self,
+        alloc: Global,
+        load: u64,
+        subject: Term,
+        predicate: Term,
+    ) -> Result<Triple, Fault>
+        ensures said { IfOk result (λ triple. object_at load subject predicate self.old ≡ Ok (Some triple)) }
+        ensures fault { IfErr result (λ fault. IsFault fault (object_at load subject predicate self.old)) }
+    {
+        let object = self.term(alloc, load, Place::Object)?;
+        self.skip_blanks();
+        self.after_object(Triple {
             subject,
             predicate,
             object,
         })
-    } else {
-        None
     }
-}
 
-#[tactic(auto, unfolding(crate::specs::Reading::object_at))]
-fn object_at(text: &[u8]) -> Option<(Object<'_>, &[u8])>
-    ensures { option_map (λ parts. (object_of parts.0, parts.1.now)) result ≡ object_at text.now }
-{
-    if text.first() == Some(&b'"') {
-        let (literal, rest) = text_at(text)?;
-        return Some((Object::Text(literal), rest));
+    /// Takes the dot, and what may follow it.
+    #[tactic(auto, unfolding(crate::specs::LineReading::dot_at, crate::specs::LineReading::end_at))]
+    fn after_object(&mut self, triple: Triple) -> Result<Triple, Fault>
+        ensures said { IfOk result (λ said. dot_at triple self.old ≡ Ok (Some said)) }
+        ensures fault { IfErr result (λ fault. IsFault fault (dot_at triple self.old)) }
+    {
+        if !self.take('.') {
+            return Err(Fault::Wrong(NtKind::DotExpected));
+        }
+        self.skip_blanks();
+        if self.ends_line() {
+            Ok(triple)
+        } else {
+            Err(Fault::Wrong(NtKind::TrailingText))
+        }
     }
-    let (iri, rest) = iri_at(text)?;
-    Some((Object::Iri(iri), rest))
-}
 
-#[tactic(auto, unfolding(crate::specs::Reading::iri_at))]
-fn iri_at(text: &[u8]) -> Option<(&[u8], &[u8])>
-    ensures { option_map (λ parts. (parts.0.now, parts.1.now)) result ≡ iri_at text.now }
-{
-    let (iri, rest) = cut(after(text, b'<')?, b'>')?;
-    if is_iri(iri) { Some((iri, rest)) } else { None }
-}
-
-#[tactic(auto, unfolding(crate::specs::Reading::text_at))]
-fn text_at(text: &[u8]) -> Option<(&[u8], &[u8])>
-    ensures { option_map (λ parts. (parts.0.now, parts.1.now)) result ≡ text_at text.now }
-{
-    let (literal, rest) = cut(after(text, b'"')?, b'"')?;
-    if is_text(literal) {
-        Some((literal, rest))
-    } else {
-        None
+    /// Whether the line ends here, or a comment begins.
+    fn ends_line(&self) -> bool
+        ensures { result ≡ ends_line self.now }
+    {
+        match self.peek() {
+            Some(character) => character == '#',
+            None => true,
+        }
     }
-}
-
-fn is_text(text: &[u8]) -> bool
-    ensures { result ≡ is_text text.now }
-{
-    text.iter().all(|byte| is_text_byte(*byte))
-}
-
-fn is_text_byte(byte: u8) -> bool
-    ensures { result ≡ is_text_byte byte }
-{
-    matches!(byte, b' '..=b'~') && byte != b'"' && byte != b'\\'
-}
-
-/// What follows a byte, where it stands at the front.
-fn after(text: &[u8], byte: u8) -> Option<&[u8]>
-    ensures { option_copied result ≡ after byte text.now }
-{
-    match text {
-        [first, rest @ ..] if *first == byte => Some(rest),
-        _ => None,
-    }
-}
-
-/// What stands before the first such byte, and what stands after it.
-fn cut(text: &[u8], byte: u8) -> Option<(&[u8], &[u8])>
-    ensures { option_map (λ parts. (parts.0.now, parts.1.now)) result ≡ cut byte text.now }
-{
-    let at = memchr(byte, text)?;
-    let (front, end) = text.split_at(at);
-    Some((front, after(end, byte)?))
 }

@@ -1,5 +1,7 @@
 ghost use Rattle.std.specs.Prelude.{◌≤◌};
 
+mod documents;
+
 use super::*;
 use pcj_io::{MemSink, MemSource, StdSink, StdSource};
 use std::alloc::{AllocError, Global};
@@ -142,13 +144,16 @@ fn documents_are_loaded_or_refused_by_line(rt: HostRuntime) -> Result<(), Fail> 
             b"load c1\n<a:a> <a:p> <a:b> .\r\n\r<a:a> <a:p> <a:c> .\nend",
             b"c1 load 1 2 triples\nc1 committed 2\n",
         ),
-        (b"load c1\n<a:a>\t<a:p> <a:b> .\nend", b"c1 refused 1 0\n"),
-        (b"load c1\n<a> <a:p> <a:b> .\nend", b"c1 refused 1 0\n"),
-        (b"load c1\n<a:a> <a:p> \"x\"y\" .\nend", b"c1 refused 1 0\n"),
-        (b"load c1\n\n<a:a> <a:p> <a:b>\nend", b"c1 refused 2 0\n"),
+        (
+            b"load c1\n<a:a>\t<a:p> <a:b> . # x\nend",
+            b"c1 load 1 1 triples\nc1 committed 2\n",
+        ),
+        (b"load c1\n<a> <a:p> <a:b> .\nend", b"c1 refused 1 11\n"),
+        (b"load c1\n<a:a> <a:p> \"x\"y\" .\nend", b"c1 refused 1 5\n"),
+        (b"load c1\n\n<a:a> <a:p> <a:b>\nend", b"c1 refused 2 5\n"),
         (
             b"load c1\n<a:a> <a:p> <a:b> .\n<a:a> <a:p> \"\xff\" .\nend",
-            b"c1 refused 2 0\n",
+            b"c1 refused 2 1\n",
         ),
         (
             b"load c1\n<a:a> <a:p> \"\" .\nend",
@@ -157,9 +162,9 @@ fn documents_are_loaded_or_refused_by_line(rt: HostRuntime) -> Result<(), Fail> 
         // a refused load takes no number
         (
             b"load c2\nx\nend\nload c3\nend",
-            b"c2 refused 1 0\nc3 load 1 0 triples\nc3 committed 2\n",
+            b"c2 refused 1 2\nc3 load 1 0 triples\nc3 committed 2\n",
         ),
-        (b"load c2\n end\nend\n", b"c2 refused 1 0\n"),
+        (b"load c2\n end\nend\n", b"c2 refused 1 2\n"),
     ];
     for (script, want) in table {
         let ran = replayed(alloc, script)?;
