@@ -1,0 +1,51 @@
+//! The program `pcj_bench`, which measures crates of this repository.
+//!
+//! Its first argument names a measure. It makes what the measure works on, or reads a document on standard input,
+//! works on it again and again, and writes how many bytes a second that took, or, of a table of rows, how long a
+//! call took at each number of rows. Nothing here is promised: what is proved is that each call meets its
+//! conditions, and that the program ends. The scripts in `bench/` run it.
+#![tactic(auto)]
+
+mod document;
+mod failure;
+mod join;
+mod mix;
+mod print;
+mod rate;
+mod read;
+mod row_table;
+mod split;
+
+use document::measure_document;
+use failure::Failure;
+use join::measure_join;
+use print::measure_print;
+use read::measure_read;
+use row_table::measure_row_table;
+use split::measure_split;
+use std::env;
+
+fn main(rt: HostRuntime) -> Result<(), Failure> {
+    let alloc = rt.alloc();
+    let name = env::args(&rt)?.nth(1);
+    let rate = match name.as_ref().map(|name| name.as_str()) {
+        Some("print_term") => measure_print(&rt, alloc)?,
+        Some("read_term") => measure_read(&rt, alloc)?,
+        Some("join_parts") => measure_join(&rt, alloc)?,
+        Some("split_parts") => measure_split(&rt, alloc)?,
+        Some("read_document") => measure_document(&rt, alloc, rt.stdin())?,
+        Some("row_table") => {
+            for (rows, rounds) in [(1_000, 100), (10_000, 10), (100_000, 1)] {
+                let times = measure_row_table(&rt, alloc, rows, rounds)?;
+                println!(rt; "{times}")?;
+            }
+            return Ok(());
+        }
+        _ => {
+            println!(rt; "usage: pcj_bench print_term|read_term|join_parts|split_parts|read_document|row_table")?;
+            return Ok(());
+        }
+    };
+    println!(rt; "{rate}")?;
+    Ok(())
+}
