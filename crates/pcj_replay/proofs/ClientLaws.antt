@@ -9,7 +9,8 @@ use Rattle.std.proofs.lemmas.List.{map-append}
 use Rattle.std.proofs.lemmas.Bool.Decides.{leb_tells}
 use Rattle.std.proofs.lemmas.Bool.{false≢true, cases_lt}
 use Rattle.pcj_term.specs.Iri.{lies_between}
-use Rattle.pcj_replay.specs.Script.{IsClient, client_name}
+use Rattle.pcj_lines.specs.Lines.{client_name}
+use Rattle.pcj_replay.specs.Script.{IsClient}
 use Rattle.pcj_replay.specs.Opening.{client_of}
 
 abbrev glyph : ℕ → ℕ

@@ -6,7 +6,8 @@ use Rattle.std.proofs.lemmas.Fmt.{decimal_injective}
 use Rattle.pcj_replay.specs.declared.command.Command.{Command}
 use Rattle.pcj_replay.specs.declared.command.Command.TheVariants.{Load, Register, Answers}
 use Rattle.pcj_replay.specs.Name.{words_of}
-use Rattle.pcj_replay.specs.Script.{command_words, client_name, ended, IsClient, IsNamed, HasNoEnd, TextLines, BodyLines, CommandLines, ItemLines, BeginsNone, end_line}
+use Rattle.pcj_lines.specs.Lines.{client_name, ended}
+use Rattle.pcj_replay.specs.Script.{command_words, IsClient, IsNamed, HasNoEnd, TextLines, BodyLines, CommandLines, ItemLines, BeginsNone, end_line}
 use Rattle.pcj_replay.proofs.ScriptLaws.{not_answers, not_blank}
 
 -- ---- texts

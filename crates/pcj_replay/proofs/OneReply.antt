@@ -11,7 +11,7 @@ use Rattle.pcj_replay.specs.declared.command.Command.{Command}
 use Rattle.pcj_replay.specs.declared.command.Command.TheVariants.{Load, Register, Answers}
 use Rattle.pcj_replay.specs.declared.query.Query.{Query}
 use Rattle.pcj_replay.specs.Query.{AnswerLines}
-use Rattle.pcj_replay.specs.Lines.{loaded_line, committed_line, refused_line, registered_line, taken_line, rows_line}
+use Rattle.pcj_lines.specs.Lines.{loaded_line, committed_line, refused_line, registered_line, taken_line, rows_line}
 use Rattle.pcj_replay.specs.Transcript.{State, Reply, Joins, query_named, Loads, RefusesLoad, Registers, IsTaken, IsAnswered}
 use Rattle.pcj_replay.proofs.OneQuery.{SameTriples, one_query, one_answer}
 

@@ -14,8 +14,8 @@ use Rattle.pcj_replay.specs.declared.script.Script.{Script}
 use Rattle.pcj_replay.specs.declared.stop.Stop.{Stop}
 use Rattle.pcj_replay.specs.declared.stop.Stop.TheVariants as stops
 use Rattle.pcj_replay.specs.Input.{Told}
-use Rattle.pcj_replay.specs.Lines.{script_line}
-use Rattle.pcj_replay.specs.Script.{IsScript, ended}
+use Rattle.pcj_lines.specs.Lines.{script_line, ended}
+use Rattle.pcj_replay.specs.Script.{IsScript}
 use Rattle.pcj_replay.specs.Stop.{HasSinkCause}
 use Rattle.pcj_replay.specs.Run.{PrintsAll, PrintsPrefix, Concludes}
 use Rattle.pcj_replay.specs.Outcome.{Completes, Refuses, CutsShort, Replays, IsScriptOf, ShowsUsage, usage, outcome_of, status_of, HasCauses}

@@ -6,7 +6,7 @@ use Rattle.pcj_ntriples.specs.Document.{Document, DocumentFault, number_of}
 use Rattle.pcj_replay.specs.declared.command.Command.TheVariants.{Load, Register, Answers}
 use Rattle.pcj_replay.specs.declared.query.Query.{Query}
 use Rattle.pcj_replay.specs.Query.{QueryText, AnswerLines}
-use Rattle.pcj_replay.specs.Lines.{loaded_line, committed_line, registered_line, taken_line, refused_line, no_query_line, rows_line}
+use Rattle.pcj_lines.specs.Lines.{loaded_line, committed_line, registered_line, taken_line, refused_line, no_query_line, rows_line}
 use Rattle.pcj_replay.specs.Transcript.{State, query_named, printed_lines}
 use Rattle.pcj_replay.specs.World.{Replies, Commits, Names}
 

@@ -7,7 +7,8 @@ use Rattle.pcj_replay.specs.declared.command.Command.{Command}
 use Rattle.pcj_replay.specs.declared.command.Command.TheVariants.{Load, Register, Answers}
 use Rattle.pcj_replay.specs.Name.{words_of}
 use Rattle.pcj_replay.specs.Opening.{client_of}
-use Rattle.pcj_replay.specs.Script.{command_words, client_name, ended, is_name, IsClient, IsNamed, HasNoEnd, ItemLines, BeginsNone, IsOpen, end_line}
+use Rattle.pcj_lines.specs.Lines.{client_name, ended}
+use Rattle.pcj_replay.specs.Script.{command_words, is_name, IsClient, IsNamed, HasNoEnd, ItemLines, BeginsNone, IsOpen, end_line}
 use Rattle.pcj_replay.proofs.ClientLaws.{named_some, named_none}
 use Rattle.pcj_replay.proofs.ScriptLaws.{open_begins_none}
 use Rattle.pcj_replay.proofs.OneItem.{nothing_begins_none}

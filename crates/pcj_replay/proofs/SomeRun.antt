@@ -9,7 +9,7 @@ use Rattle.pcj_replay.specs.declared.command.Command.{Command}
 use Rattle.pcj_replay.specs.declared.command.Command.TheVariants.{Load, Register, Answers}
 use Rattle.pcj_replay.specs.declared.query.Query.{Query}
 use Rattle.pcj_replay.specs.Query.{QueryText}
-use Rattle.pcj_replay.specs.Lines.{loaded_line, committed_line, refused_line, registered_line, taken_line, no_query_line, rows_line}
+use Rattle.pcj_lines.specs.Lines.{loaded_line, committed_line, refused_line, registered_line, taken_line, no_query_line, rows_line}
 use Rattle.pcj_replay.specs.Transcript.{State, empty_state, Reply, Joins, Run, Transcript, query_named, printed}
 use Rattle.pcj_replay.proofs.SomeAnswer.{some_answer}
 use Rattle.pcj_replay.proofs.SomeQuery.{decide_query}

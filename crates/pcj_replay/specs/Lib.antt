@@ -2,7 +2,6 @@ pub mod Front
 pub mod Input
 pub mod Item
 pub mod Law
-pub mod Lines
 pub mod Matching
 pub mod Name
 pub mod Opening

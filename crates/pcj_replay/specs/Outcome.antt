@@ -9,9 +9,9 @@ use Rattle.pcj_replay.specs.declared.script.Script.{Script}
 use Rattle.pcj_replay.specs.declared.stop.Stop.{Stop}
 use Rattle.pcj_replay.specs.declared.stop.Stop.TheVariants as stops
 use Rattle.pcj_replay.specs.Input.{Told}
-use Rattle.pcj_replay.specs.Lines.{usage_line}
+use Rattle.pcj_lines.specs.Lines.{usage_line, ended}
 use Rattle.pcj_replay.specs.Run.{PrintsAll, PrintsRefusal, PrintsPrefix}
-use Rattle.pcj_replay.specs.Script.{IsScript, ended}
+use Rattle.pcj_replay.specs.Script.{IsScript}
 
 -- ---- the word `replay`
 

@@ -4,8 +4,7 @@ use Rattle.pcj_io.specs.Sink.{Appends, AppendsPrefix}
 use Rattle.pcj_replay.specs.declared.command.Command.{Command}
 use Rattle.pcj_replay.specs.declared.outcome.Outcome.{Outcome}
 use Rattle.pcj_replay.specs.declared.outcome.Outcome.TheVariants.{Ended, Refused, SourceFault, SinkFault, OutOfMemory}
-use Rattle.pcj_replay.specs.Lines.{script_line}
-use Rattle.pcj_replay.specs.Script.{ended}
+use Rattle.pcj_lines.specs.Lines.{script_line, ended}
 use Rattle.pcj_replay.specs.Transcript.{State, Transcript}
 use Rattle.pcj_replay.specs.World.{Replies}
 

@@ -1,8 +1,8 @@
 -- The commands of a script, and where it is refused.
 use Rattle.std.specs.Prelude.{◌≡◌, ◌≢◌, ◌⊎◌, ℕ, ◌+◌, ◌-◌, ◌≤◌, Bool, true, false, ◌&&◌, ◌||◌, List, [], ◌∷◌, ◌++◌, ◌==◌, nat_le, nat_lt, length, take, codes, Option, Some, None, if◌then◌else◌}
 use Rattle.std.specs.List.{list_all, slice_split, flat_map, filter_map, AllByRecursion}
-use Rattle.std.specs.Fmt.{decimal}
 use Rattle.pcj_term.specs.Iri.{is_letter, lies_between}
+use Rattle.pcj_lines.specs.Lines.{ended, client_name}
 use Rattle.pcj_replay.specs.Name.{words_of}
 use Rattle.pcj_replay.specs.declared.command.Command.{Command}
 use Rattle.pcj_replay.specs.declared.command.Command.TheVariants.{Load, Register, Answers}
@@ -24,14 +24,7 @@ is_too_long bytes = nat_lt SCRIPT_LIMIT (length bytes)
 abbrev pub readable_lines : List ℕ → List (List ℕ)
 readable_lines bytes = if is_too_long bytes then all_but_last (lines_of (take SCRIPT_LIMIT bytes)) else lines_of (take SCRIPT_LIMIT bytes)
 
-abbrev pub ended : List ℕ → List ℕ
-ended line = line ++ 10 ∷ []
-
 -- ---- commands
-
--- a client as it is written and printed
-abbrev pub client_name : ℕ → List ℕ
-client_name client = codes "c" ++ decimal client
 
 abbrev pub IsClient : ℕ → Type 0
 IsClient client = (1 ≤ client) × (client ≤ 64)

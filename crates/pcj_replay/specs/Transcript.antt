@@ -10,8 +10,7 @@ use Rattle.pcj_replay.specs.declared.command.Command.{Command}
 use Rattle.pcj_replay.specs.declared.command.Command.TheVariants.{Load, Register, Answers}
 use Rattle.pcj_replay.specs.declared.query.Query.{Query}
 use Rattle.pcj_replay.specs.Query.{QueryText, AnswerLines}
-use Rattle.pcj_replay.specs.Script.{ended}
-use Rattle.pcj_replay.specs.Lines.{loaded_line, committed_line, refused_line, registered_line, taken_line, no_query_line, rows_line}
+use Rattle.pcj_lines.specs.Lines.{ended, loaded_line, committed_line, refused_line, registered_line, taken_line, no_query_line, rows_line}
 
 -- the triples of the loads so far, the registered queries, and the last number that was granted
 pub record State : Type 0 where

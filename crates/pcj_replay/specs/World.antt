@@ -4,7 +4,7 @@ use Rattle.pcj_term.specs.declared.triple.Triple.{Triple}
 use Rattle.pcj_replay.specs.declared.command.Command.{Command}
 use Rattle.pcj_replay.specs.declared.query.Query.{Query}
 use Rattle.pcj_replay.specs.declared.world.World.{World}
-use Rattle.pcj_replay.specs.Lines.{loaded_line, committed_line, registered_line, taken_line}
+use Rattle.pcj_lines.specs.Lines.{loaded_line, committed_line, registered_line, taken_line}
 use Rattle.pcj_replay.specs.Transcript.{State, Reply, Joins, query_named, printed_lines}
 
 abbrev pub state_of : World → State

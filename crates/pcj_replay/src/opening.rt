@@ -2,7 +2,8 @@ ghost use Rattle.std.specs.Prelude.{◌≡◌, ◌≢◌, ℕ, [], ◌∷◌, ma
 ghost use Rattle.std.specs.List.{list_all};
 ghost use Rattle.pcj_replay.specs.declared.command.Command.{Command};
 ghost use Rattle.pcj_replay.specs.Name.{words_of};
-ghost use Rattle.pcj_replay.specs.Script.{IsClient, client_name, is_name, is_name_byte, command_words, IsNamed};
+ghost use Rattle.pcj_lines.specs.Lines.{client_name};
+ghost use Rattle.pcj_replay.specs.Script.{IsClient, is_name, is_name_byte, command_words, IsNamed};
 ghost use Rattle.pcj_replay.specs.Opening.{client_of, Opens};
 
 use crate::split::split_at_byte;

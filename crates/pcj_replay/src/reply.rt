@@ -1,8 +1,12 @@
 ghost use Rattle.std.specs.Prelude.{◌≡◌, ◌+◌, ◌^◌, ◌<◌, [], ◌∷◌, ◌++◌, length, OnOk, IfOk};
 ghost use Rattle.pcj_replay.specs.Transcript.{printed_lines};
-ghost use Rattle.pcj_replay.specs.Script.{ended};
-ghost use Rattle.pcj_replay.specs.Lines as lines;
+ghost use Rattle.pcj_lines.specs.Lines.{ended};
+ghost use Rattle.pcj_lines.specs.Lines as lines;
 
+use pcj_lines::{
+    push_committed, push_loaded, push_no_query, push_refused, push_refused_line, push_registered,
+    push_row, push_rows, push_taken, push_usage,
+};
 use pcj_term::{Bytes, Memory};
 use std::alloc::Global;
 
@@ -90,9 +94,8 @@ pub(crate) fn rows_reply(alloc: Global, rows: &[Bytes]) -> Result<Bytes, Memory>
 pub(crate) fn script_reply(alloc: Global, line: u64) -> Result<Bytes, Memory>
     ensures { IfOk result (λ text. text ≡ ended (lines.script_line line)) }
 {
-    let line = format!(in alloc; "script {line} 0\n")?;
     let mut text = Bytes::new(alloc);
-    text.extend_from_slice(line.as_bytes())?;
+    push_refused_line(alloc, &mut text, line)?;
     Ok(text)
 }
 
@@ -100,98 +103,17 @@ pub(crate) fn script_reply(alloc: Global, line: u64) -> Result<Bytes, Memory>
 pub(crate) fn usage_reply(alloc: Global) -> Result<Bytes, Memory>
     ensures { IfOk result (λ text. text ≡ ended lines.usage_line) }
 {
-    Bytes::from_slice(
-        alloc,
-        b"usage: pcj replay | pcj big SEED N | pcj generate SEED N\n",
-    )
+    let mut text = Bytes::new(alloc);
+    push_usage(&mut text)?;
+    Ok(text)
 }
 
-/// Adds the lines, each with its LF.
-fn push_lines(out: &mut Bytes, lines: &[Bytes]) -> Result<(), Memory>
-    ensures { OnOk result (out.new ≡ out.old ++ printed_lines lines.now) }
+/// Adds the lines of the rows.
+fn push_lines(out: &mut Bytes, rows: &[Bytes]) -> Result<(), Memory>
+    ensures { OnOk result (out.new ≡ out.old ++ printed_lines rows.now) }
 {
-    for line in lines {
-        out.extend_from_slice(line.as_slice())?;
-        out.push(b'\n')?;
+    for row in rows {
+        push_row(out, row)?;
     }
     Ok(())
-}
-
-/// `cN load T n triples`
-fn push_loaded(
-    alloc: Global,
-    out: &mut Bytes,
-    client: u8,
-    number: u64,
-    count: usize,
-) -> Result<(), Memory>
-    ensures { OnOk result (out.new ≡ out.old ++ ended (lines.loaded_line client number count)) }
-{
-    let start = format!(in alloc; "c{client} load {number}")?;
-    out.extend_from_slice(start.as_bytes())?;
-    let end = format!(in alloc; " {count} triples\n")?;
-    out.extend_from_slice(end.as_bytes())
-}
-
-/// `cN committed U`
-fn push_committed(alloc: Global, out: &mut Bytes, client: u8, number: u64) -> Result<(), Memory>
-    ensures { OnOk result (out.new ≡ out.old ++ ended (lines.committed_line client number)) }
-{
-    let line = format!(in alloc; "c{client} committed {number}\n")?;
-    out.extend_from_slice(line.as_bytes())
-}
-
-/// `cN refused PLACE KIND`
-fn push_refused(
-    alloc: Global,
-    out: &mut Bytes,
-    client: u8,
-    place: u64,
-    kind: u8,
-) -> Result<(), Memory>
-    ensures { OnOk result (out.new ≡ out.old ++ ended (lines.refused_line client place kind)) }
-{
-    let line = format!(in alloc; "c{client} refused {place} {kind}\n")?;
-    out.extend_from_slice(line.as_bytes())
-}
-
-/// `cN register T NAME`
-fn push_registered(
-    alloc: Global,
-    out: &mut Bytes,
-    client: u8,
-    number: u64,
-    name: &Bytes,
-) -> Result<(), Memory>
-    ensures { OnOk result (out.new ≡ out.old ++ ended (lines.registered_line client number name.now)) }
-{
-    let line = format!(in alloc; "c{client} register {number} ")?;
-    out.extend_from_slice(line.as_bytes())?;
-    out.extend_from_slice(name.as_slice())?;
-    out.push(b'\n')
-}
-
-/// `cN taken`
-fn push_taken(alloc: Global, out: &mut Bytes, client: u8) -> Result<(), Memory>
-    ensures { OnOk result (out.new ≡ out.old ++ ended (lines.taken_line client)) }
-{
-    let line = format!(in alloc; "c{client} taken\n")?;
-    out.extend_from_slice(line.as_bytes())
-}
-
-/// `no query NAME`
-fn push_no_query(out: &mut Bytes, name: &Bytes) -> Result<(), Memory>
-    ensures { OnOk result (out.new ≡ out.old ++ ended (lines.no_query_line name.now)) }
-{
-    out.extend_from_slice(b"no query ")?;
-    out.extend_from_slice(name.as_slice())?;
-    out.push(b'\n')
-}
-
-/// `rows K`
-fn push_rows(alloc: Global, out: &mut Bytes, count: usize) -> Result<(), Memory>
-    ensures { OnOk result (out.new ≡ out.old ++ ended (lines.rows_line count)) }
-{
-    let line = format!(in alloc; "rows {count}\n")?;
-    out.extend_from_slice(line.as_bytes())
 }

@@ -1,6 +1,7 @@
 ghost use Rattle.std.specs.Prelude.{◌≡◌, ◌≤◌, ◌<◌, length, take, map, IfOk, IfSome, IfNone};
 ghost use Rattle.std.specs.List.{flat_map};
-ghost use Rattle.pcj_replay.specs.Script.{TextLines, HasNoEnd, ended};
+ghost use Rattle.pcj_lines.specs.Lines.{ended};
+ghost use Rattle.pcj_replay.specs.Script.{TextLines, HasNoEnd};
 ghost use Rattle.pcj_replay.specs.Front.{EndsFirstAt};
 
 use pcj_term::{Bytes, Memory};

@@ -1,6 +1,6 @@
 use Rattle.std.proofs.Common.{◌≡◌, ◌++◌, map, drop}
 use Rattle.std.specs.List.{flat_map}
-use Rattle.pcj_replay.specs.Script.{ended}
+use Rattle.pcj_lines.specs.Lines.{ended}
 use Rattle.pcj_replay.proofs.text.joined.Given as goal
 
 abbrev pub invariant-loop-line : goal.invariant-loop-line

@@ -1,0 +1,20 @@
+ghost use Rattle.std.specs.Prelude.{◌≡◌, ◌++◌, OnOk};
+ghost use Rattle.pcj_lines.specs.Lines.{ended, script_line, usage_line};
+
+use pcj_term::{Bytes, Memory};
+use std::alloc::Global;
+
+/// Adds `script LINE 0`: the number, from 1, of the script's line that is refused.
+pub fn push_refused_line(alloc: Global, out: &mut Bytes, line: u64) -> Result<(), Memory>
+    ensures { OnOk result (out.new ≡ out.old ++ ended (script_line line)) }
+{
+    let line = format!(in alloc; "script {line} 0\n")?;
+    out.extend_from_slice(line.as_bytes())
+}
+
+/// Adds the line that names the commands of the program.
+pub fn push_usage(out: &mut Bytes) -> Result<(), Memory>
+    ensures { OnOk result (out.new ≡ out.old ++ ended usage_line) }
+{
+    out.extend_from_slice(b"usage: pcj replay | pcj big SEED N | pcj generate SEED N\n")
+}
