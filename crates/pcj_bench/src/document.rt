@@ -18,7 +18,7 @@ impl From<NtRefusal> for Failure {
 }
 
 /// How fast the document that a reader holds is read, in bytes of its text.
-pub fn measure_document<R: Read>(
+pub fn measure_document<R: Read + Drop>(
     clock: &impl Clock,
     alloc: Global,
     mut reader: R,

@@ -42,7 +42,9 @@ fn main(rt: HostRuntime) -> Result<(), Failure> {
             return Ok(());
         }
         _ => {
-            println!(rt; "usage: pcj_bench print_term|read_term|join_parts|split_parts|read_document|row_table")?;
+            println!(rt;
+                "usage: pcj_bench print_term|read_term|join_parts|split_parts|read_document|row_table"
+            )?;
             return Ok(());
         }
     };

@@ -37,12 +37,7 @@ pub fn push_registered(
 }
 
 /// Adds `cN committed U`: the commit timestamp.
-pub fn push_committed(
-    alloc: Global,
-    out: &mut Bytes,
-    client: u8,
-    number: u64,
-) -> Result<(), Memory>
+pub fn push_committed(alloc: Global, out: &mut Bytes, client: u8, number: u64) -> Result<(), Memory>
     ensures { OnOk result (out.new ≡ out.old ++ ended (committed_line client number)) }
 {
     let line = format!(in alloc; "c{client} committed {number}\n")?;

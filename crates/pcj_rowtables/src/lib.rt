@@ -1,9 +1,9 @@
 //! In which rows of the table a triple stands.
 #![tactic(auto)]
 
-mod triple_rows;
+mod rows;
 
-pub use triple_rows::triple_rows;
+pub use rows::triple_rows;
 
 #[cfg(test)]
 mod tests;
