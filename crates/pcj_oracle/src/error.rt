@@ -2,6 +2,8 @@ ghost use Rattle.std.specs.Prelude.{◌≡◌};
 ghost use Rattle.pcj_oracle.specs.Draw.{oracle_error};
 
 use pcj_table::TableError;
+use pcj_term::{Memory, TryClone};
+use std::alloc::Global;
 use thiserror::Error;
 
 /// Why no number was granted.
@@ -26,5 +28,11 @@ impl From<TableError> for OracleError {
             TableError::Failed => OracleError::Failed,
             TableError::Memory => OracleError::Memory,
         }
+    }
+}
+
+impl TryClone for OracleError {
+    fn try_clone(&self, _alloc: Global) -> Result<OracleError, Memory> {
+        Ok(*self)
     }
 }

@@ -6,7 +6,7 @@ use super::*;
 use crate::clock::{clock_key, raise_number};
 use pcj_memtable::MemTable;
 use pcj_table::{RowTable, TableError};
-use pcj_term::{Items, Memory};
+use pcj_term::{Items, Memory, TryClone};
 use std::alloc::Global;
 use std::test::Fail;
 
@@ -109,6 +109,7 @@ fn the_last_timestamp_is_granted_once(rt: HostRuntime) -> Result<(), Fail> {
     );
     assert_eq!(rt; clock_of(&mut table)?, Some((281_474_976_710_656, Some(0))));
     assert_eq!(rt; (table.faults(), table.calls()), (0, 5));
+    assert_eq!(rt; OracleError::Spent.try_clone(alloc)?, OracleError::Spent);
     let text = format!(in alloc; "{}", OracleError::Spent)?;
     assert_eq!(rt; text.as_str(), "all timestamps were granted");
     Ok(())

@@ -1,7 +1,8 @@
 ghost use Rattle.std.specs.Prelude.{◌≡◌};
 ghost use Rattle.pcj_table.specs.declared.error.TableError.TheVariants as errors;
 
-use pcj_term::Memory;
+use pcj_term::{Memory, TryClone};
+use std::alloc::Global;
 use thiserror::Error;
 
 /// Why a call of a table did nothing.
@@ -20,5 +21,11 @@ impl From<Memory> for TableError {
 
     fn from(_: Memory) -> Self {
         TableError::Memory
+    }
+}
+
+impl TryClone for TableError {
+    fn try_clone(&self, _alloc: Global) -> Result<TableError, Memory> {
+        Ok(*self)
     }
 }

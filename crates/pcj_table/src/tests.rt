@@ -166,5 +166,6 @@ fn answers_are_copied(rt: HostRuntime) -> Result<(), Fail> {
     assert!(rt; matches!(&rejected, Mutated::Rejected(row) if row.versions.len() == 2));
     let applied = Mutated::Applied.try_clone(alloc)?;
     assert!(rt; matches!(&applied, Mutated::Applied));
+    assert_eq!(rt; TableError::Failed.try_clone(alloc)?, TableError::Failed);
     Ok(())
 }

@@ -70,7 +70,8 @@ fn is_scheme_byte(byte: u8) -> bool
     is_letter_or_digit(byte) || byte == b'+' || byte == b'-' || byte == b'.'
 }
 
-fn is_absolute(bytes: &[u8]) -> bool
+/// Whether the bytes begin with a scheme and a colon (RFC 3986, section 3.1).
+pub fn is_absolute(bytes: &[u8]) -> bool
     ensures { result ≡ is_absolute bytes.now }
 {
     match bytes {

@@ -30,7 +30,7 @@ mod utf8;
 
 pub use bytes::Bytes;
 pub use integer::integer_of;
-pub use iri::{is_absolute_iri, is_iri, is_letter};
+pub use iri::{is_absolute, is_absolute_iri, is_iri, is_letter};
 pub use items::Items;
 pub use kind::Kind;
 pub use label::{

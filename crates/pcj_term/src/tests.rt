@@ -130,6 +130,7 @@ fn items_hold_what_was_pushed(rt: HostRuntime) -> Result<(), Fail> {
     list.insert(1, 7)?;
     assert_eq!(rt; list.as_slice(), [5, 7, 6].as_slice());
     assert_eq!(rt; Some(4u64).try_clone(alloc)?, Some(4));
+    assert_eq!(rt; Memory.try_clone(alloc)?, Memory);
     Ok(())
 }
 

@@ -24,3 +24,9 @@ impl<T: TryClone> TryClone for Option<T> {
         }
     }
 }
+
+impl TryClone for Memory {
+    fn try_clone(&self, _alloc: Global) -> Result<Memory, Memory> {
+        Ok(*self)
+    }
+}
