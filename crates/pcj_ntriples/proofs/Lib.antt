@@ -7,3 +7,4 @@ pub mod ReaderSteps
 pub mod NameSteps
 pub mod Loads
 pub mod Laws
+pub mod Valid

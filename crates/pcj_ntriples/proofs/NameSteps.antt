@@ -177,19 +177,31 @@ run_longest characters name rest run = (
       run.long more further e parts.0 (not-true (ends_dot (name ++ more)) parts.1),
 )
 
+same_run : (characters name rest other after : List ℕ) → IsRun characters name rest → IsRun characters other after → (name ≡ other) × (rest ≡ after)
+same_run characters name rest other after run again =
+    longest_same is_run name rest other after (sym run.whole ∙ again.whole) (run_longest characters name rest run) (run_longest characters other after again)
+
+label_run : (label : List ℕ) (kept : ℕ) (after characters whole : List ℕ) → (l : LabelSoFar label kept after characters whole) → begins_label_character characters ≡ false → IsRun whole l.name after
+label_run label kept after characters whole l stop = record {
+  whole = l.written;
+  all = (and_parts (list_all is_label_character l.name) (list_all is_label_character l.dots) (sym (list_all-append is_label_character l.name l.dots) ∙ l.all)).0;
+  open_end = l.inside;
+  long = λ more further e h k.
+      let parts = and_parts (list_all is_label_character l.name) (list_all is_label_character more) (sym (list_all-append is_label_character l.name more) ∙ h) in
+      no_dots_left l.name more (dots_alone l.dots characters more further (sym l.follows ∙ e) stop l.dotted parts.1) k;
+}
+
+kept_label : (label : List ℕ) (kept : ℕ) (after characters whole : List ℕ) → (l : LabelSoFar label kept after characters whole) → encode_utf8_all l.name ≡ take kept label
+kept_label label kept after characters whole l =
+    let bytes : label ≡ encode_utf8_all l.name ++ encode_utf8_all l.dots = l.bytes ∙ encodes-append l.name l.dots in
+    sym (ap (λ (n : ℕ). take n label) l.count ∙ ap (take (length (encode_utf8_all l.name))) bytes ∙ take-append_seam (encode_utf8_all l.name) (encode_utf8_all l.dots))
+
+label_of_run : (characters name rest label : List ℕ) → ((name_at characters).0 ≡ name) × ((name_at characters).1 ≡ rest) → encode_utf8_all name ≡ label → label_at characters ≡ (label, rest)
+label_of_run characters name rest label same bytes =
+    ap (λ (n : List ℕ). (encode_utf8_all n, (name_at characters).1)) same.0 ∙ ap (λ (r : List ℕ). (encode_utf8_all name, r)) same.1 ∙ ap (λ (b : List ℕ). (b, rest)) bytes
+
 pub label_done : (label : List ℕ) (kept : ℕ) (after characters whole : List ℕ) → LabelSoFar label kept after characters whole → begins_label_character characters ≡ false → label_at whole ≡ (take kept label, after)
 label_done label kept after characters whole l stop =
-    let name_all = (and_parts (list_all is_label_character l.name) (list_all is_label_character l.dots) (sym (list_all-append is_label_character l.name l.dots) ∙ l.all)).0 in
-    let run : IsRun whole l.name after = record {
-      whole = l.written;
-      all = name_all;
-      open_end = l.inside;
-      long = λ more further e h k.
-          let parts = and_parts (list_all is_label_character l.name) (list_all is_label_character more) (sym (list_all-append is_label_character l.name more) ∙ h) in
-          no_dots_left l.name more (dots_alone l.dots characters more further (sym l.follows ∙ e) stop l.dotted parts.1) k;
-    } in
-    let other = run_of whole in
-    let same = longest_same is_run (name_at whole).0 (name_at whole).1 l.name after (sym other.whole ∙ l.written) (run_longest whole (name_at whole).0 (name_at whole).1 other) (run_longest whole l.name after run) in
-    let bytes : label ≡ encode_utf8_all l.name ++ encode_utf8_all l.dots = l.bytes ∙ encodes-append l.name l.dots in
-    let front : take kept label ≡ encode_utf8_all l.name = ap (λ (n : ℕ). take n label) l.count ∙ ap (take (length (encode_utf8_all l.name))) bytes ∙ take-append_seam (encode_utf8_all l.name) (encode_utf8_all l.dots) in
-    ap (λ (n : List ℕ). (encode_utf8_all n, (name_at whole).1)) same.0 ∙ ap (λ (r : List ℕ). (encode_utf8_all l.name, r)) same.1 ∙ ap (λ (b : List ℕ). (b, after)) (sym front)
+    label_of_run whole l.name after (take kept label)
+    (same_run whole (name_at whole).0 (name_at whole).1 l.name after (run_of whole) (label_run label kept after characters whole l stop))
+    (kept_label label kept after characters whole l)

@@ -18,12 +18,12 @@ use Rattle.pcj_ntriples.proofs.Taken.{Ends, ends_through, ends_scalars, skips_en
 
 -- ---- whole items
 
-before_predicate_ends : (load : ℕ) (line : List ℕ) (subject : Term) (rest : List ℕ) → BeforePredicate load line subject rest → Ends line rest
+pub before_predicate_ends : (load : ℕ) (line : List ℕ) (subject : Term) (rest : List ℕ) → BeforePredicate load line subject rest → Ends line rest
 before_predicate_ends load line subject rest h = let takes = h.3 in
     ends_through line h.0 rest (skips_ends line h.0 h.2)
     (ends_through h.0 h.1 rest (takes_ends load h.0 subject h.1 takes.1) (skips_ends h.1 rest h.4))
 
-before_object_ends : (load : ℕ) (line : List ℕ) (subject predicate : Term) (rest : List ℕ) → BeforeObject load line subject predicate rest → Ends line rest
+pub before_object_ends : (load : ℕ) (line : List ℕ) (subject predicate : Term) (rest : List ℕ) → BeforeObject load line subject predicate rest → Ends line rest
 before_object_ends load line subject predicate rest h = let takes = h.3 in
     ends_through line h.0 rest (before_predicate_ends load line subject h.0 h.2)
     (ends_through h.0 h.1 rest (takes_ends load h.0 predicate h.1 takes.1) (skips_ends h.1 rest h.4))

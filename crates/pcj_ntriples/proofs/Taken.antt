@@ -40,25 +40,26 @@ ends_through a b c h k = (h.0 ++ k.0, h.1 ∙ ap (λ (t : List ℕ). h.0 ++ t) k
 pub ends_scalars : (characters rest : List ℕ) → Ends characters rest → all_scalars characters ≡ true → all_scalars rest ≡ true
 ends_scalars characters rest h are = (scalars_parts h.0 rest (subst (λ (t : List ℕ). all_scalars t ≡ true) h.1 are)).1
 
-first_ends : (first : ℕ) (characters rest : List ℕ) → characters ≡ first ∷ rest → Ends characters rest
+pub first_ends : (first : ℕ) (characters rest : List ℕ) → characters ≡ first ∷ rest → Ends characters rest
 first_ends first characters rest e = (first ∷ [], e)
 
 pub skips_ends : (characters rest : List ℕ) → Skips characters rest → Ends characters rest
 skips_ends characters rest h = (h.0, h.2)
 
-closes_ends : (enclosure : Enclosure) (inner text rest : List ℕ) → Closes enclosure inner text rest → Ends inner rest
+pub closes_ends : (enclosure : Enclosure) (inner text rest : List ℕ) → Closes enclosure inner text rest → Ends inner rest
 closes_ends enclosure inner text rest w = (written_by w.pieces ++ closing_of enclosure ∷ [], w.written ∙ sym (append_assoc (written_by w.pieces) (closing_of enclosure ∷ []) rest))
 
 iri_ends : (inner iri rest : List ℕ) → TakesIri inner iri rest → Ends inner rest
 iri_ends inner iri rest h = closes_ends enclosures.Iri inner h.0 rest h.1
 
+pub before_datatype_ends : (after rest : List ℕ) → BeforeDatatype after rest → Ends after rest
+before_datatype_ends after rest h =
+    ends_through after (94 ∷ 94 ∷ h.0) rest (skips_ends after (94 ∷ 94 ∷ h.0) h.1)
+    (ends_through (94 ∷ 94 ∷ h.0) h.0 rest (94 ∷ 94 ∷ [], refl) (skips_ends h.0 rest h.2))
+
 datatype_ends : (after datatype rest : List ℕ) → TakesDatatype after datatype rest → Ends after rest
 datatype_ends after datatype rest h =
-    let before = h.1 in
-    ends_through after (94 ∷ 94 ∷ before.0) rest (skips_ends after (94 ∷ 94 ∷ before.0) before.1)
-    (ends_through (94 ∷ 94 ∷ before.0) before.0 rest (94 ∷ 94 ∷ [], refl)
-    (ends_through before.0 (60 ∷ h.0) rest (skips_ends before.0 (60 ∷ h.0) before.2)
-    (ends_through (60 ∷ h.0) h.0 rest (60 ∷ [], refl) (iri_ends h.0 datatype rest h.2))))
+    ends_through after (60 ∷ h.0) rest (before_datatype_ends after (60 ∷ h.0) h.1) (ends_through (60 ∷ h.0) h.0 rest (60 ∷ [], refl) (iri_ends h.0 datatype rest h.2))
 
 kind_ends : (after : List ℕ) (kind : Kind) (rest : List ℕ) → TakesKind after kind rest → Ends after rest
 kind_ends after Plain rest (inl h) = ([], sym h.0)

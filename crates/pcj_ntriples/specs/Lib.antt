@@ -7,4 +7,5 @@ pub mod Line
 pub mod LineReading
 pub mod Fault
 pub mod Document
+pub mod Valid
 pub mod ReadLine

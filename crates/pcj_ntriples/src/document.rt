@@ -3,6 +3,7 @@ ghost use Rattle.pcj_ntriples.specs.declared.error.NtRefusal.TheVariants.{Memory
 ghost use Rattle.pcj_ntriples.specs.Document.{Document, Refuses, SaysOneThing, HasOneFault, IsNotBoth, IsEither};
 ghost use Rattle.pcj_ntriples.specs.LineReading.{said_at};
 ghost use Rattle.pcj_ntriples.specs.ReadLine.{RefusesLine};
+ghost use Rattle.pcj_ntriples.specs.Valid.{HasValidTriples};
 
 use crate::error::{NtError, NtRefusal};
 use crate::fault::Fault;
@@ -77,4 +78,10 @@ pub fn one_reading()
     ensures fault { HasOneFault }
     ensures apart { IsNotBoth }
     ensures some { IsEither }
+{}
+
+/// Every triple of a document is one of RDF (RDF 1.1 Concepts, section 3.1), its terms are valid, and its blank
+/// nodes carry the load's number.
+pub fn valid_triples()
+    ensures { HasValidTriples }
 {}

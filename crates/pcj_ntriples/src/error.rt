@@ -2,7 +2,8 @@ ghost use Rattle.std.specs.Prelude.{◌≡◌};
 ghost use Rattle.pcj_ntriples.specs.declared.error.NtRefusal.TheVariants as refusals;
 
 use crate::kind::NtKind;
-use std::alloc::{AllocError, AllocFailed};
+use pcj_term::{Memory, TryClone};
+use std::alloc::{AllocError, AllocFailed, Global};
 
 /// A line that is refused.
 #[derive(Clone, Copy, Debug, PartialEq, Eq)]
@@ -22,10 +23,10 @@ pub enum NtRefusal {
     Memory,
 }
 
-impl From<pcj_term::Memory> for NtRefusal {
+impl From<Memory> for NtRefusal {
     ghost from_gives = { λ _ refusal. refusal ≡ refusals.Memory };
 
-    fn from(_memory: pcj_term::Memory) -> NtRefusal {
+    fn from(_memory: Memory) -> NtRefusal {
         NtRefusal::Memory
     }
 }
@@ -43,5 +44,17 @@ impl<T: Drop> From<AllocFailed<T>> for NtRefusal {
 
     fn from(_error: AllocFailed<T>) -> NtRefusal {
         NtRefusal::Memory
+    }
+}
+
+impl TryClone for NtError {
+    fn try_clone(&self, _alloc: Global) -> Result<NtError, Memory> {
+        Ok(*self)
+    }
+}
+
+impl TryClone for NtRefusal {
+    fn try_clone(&self, _alloc: Global) -> Result<NtRefusal, Memory> {
+        Ok(*self)
     }
 }

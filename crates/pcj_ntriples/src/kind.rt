@@ -1,6 +1,9 @@
 ghost use Rattle.std.specs.Prelude.{◌≡◌};
 ghost use Rattle.pcj_ntriples.specs.Kind.{number_of};
 
+use pcj_term::{Memory, TryClone};
+use std::alloc::Global;
+
 /// What is wrong with a line: the first fault that reading it from left to right meets.
 #[derive(Clone, Copy, Debug, PartialEq, Eq)]
 pub enum NtKind {
@@ -53,5 +56,11 @@ pub fn nt_number(kind: NtKind) -> u8
         NtKind::TrailingText => 12,
         NtKind::TermTooLong => 13,
         NtKind::TooMany => 14,
+    }
+}
+
+impl TryClone for NtKind {
+    fn try_clone(&self, _alloc: Global) -> Result<NtKind, Memory> {
+        Ok(*self)
     }
 }

@@ -5,14 +5,14 @@
 //! and between its terms, and may end in a comment. IRIs are absolute, language tags are given in lower case, a
 //! literal of datatype xsd:string is a plain one, and blank nodes carry the load's number. A term has at most
 //! 16,384 bytes as it is written, and a document at most 10,000 distinct triples. No text can be read in two
-//! ways, nor be both read and refused: `one_reading` is the proof.
+//! ways, nor be both read and refused: `one_reading` is the proof. What is read are triples of RDF, of terms that
+//! `pcj_term` calls valid: `valid_triples` is the proof.
 #![tactic(auto)]
 
 mod document;
 mod enclosure;
 mod error;
 mod fault;
-mod iri;
 mod kind;
 mod line;
 mod lines;
@@ -24,6 +24,6 @@ mod term;
 mod tests;
 mod text;
 
-pub use document::{one_reading, read_document};
+pub use document::{one_reading, read_document, valid_triples};
 pub use error::{NtError, NtRefusal};
 pub use kind::{NtKind, nt_number};

@@ -4,11 +4,10 @@ ghost use Rattle.pcj_ntriples.specs.Fault.{IsFault};
 
 use crate::enclosure::Enclosure;
 use crate::fault::Fault;
-use crate::iri::is_absolute;
 use crate::kind::NtKind;
 use crate::place::Place;
 use crate::reader::LineReader;
-use pcj_term::{Bytes, Kind, Term};
+use pcj_term::{Bytes, Kind, Term, is_absolute};
 use std::alloc::Global;
 
 /// How many bytes a term may have, as it is written.

@@ -1,6 +1,6 @@
 use super::{Fail, filled, read, refusal};
-use crate::{NtKind, nt_number, one_reading, read_document};
-use pcj_term::{Bytes, Memory};
+use crate::{NtError, NtKind, NtRefusal, nt_number, one_reading, read_document, valid_triples};
+use pcj_term::{Bytes, Memory, TryClone};
 use std::alloc::Global;
 
 #[test]
@@ -120,7 +120,7 @@ fn a_document_has_a_limit(rt: HostRuntime) -> Result<(), Fail> {
 }
 
 #[test]
-fn kinds_are_numbered_in_their_order(rt: HostRuntime) {
+fn kinds_are_numbered_in_their_order(rt: HostRuntime) -> Result<(), Fail> {
     let kinds = [
         NtKind::NotUtf8,
         NtKind::SubjectExpected,
@@ -137,9 +137,24 @@ fn kinds_are_numbered_in_their_order(rt: HostRuntime) {
         NtKind::TermTooLong,
         NtKind::TooMany,
     ];
+    let alloc = rt.alloc();
     let numbers: [u8; 14] = [1, 2, 3, 4, 5, 6, 7, 8, 9, 10, 11, 12, 13, 14];
     for (kind, number) in kinds.iter().zip(numbers.iter()) {
         assert_eq!(rt; nt_number(*kind), *number);
+        let error = NtError {
+            line: 1,
+            kind: kind.try_clone(alloc)?,
+        };
+        let refusal = NtRefusal::Refused(error.try_clone(alloc)?).try_clone(alloc)?;
+        assert_eq!(rt;
+            refusal,
+            NtRefusal::Refused(NtError {
+                line: 1,
+                kind: *kind
+            })
+        );
     }
     one_reading();
+    valid_triples();
+    Ok(())
 }
