@@ -1,0 +1,14 @@
+pub mod Lists
+pub mod Keys
+pub mod Held
+pub mod Empty
+pub mod Drawn
+pub mod Told
+pub mod Loading
+pub mod Changed
+pub mod Prewrites
+pub mod Commits
+pub mod Filtered
+pub mod Adding
+pub mod Walks
+pub mod Entries
