@@ -37,6 +37,10 @@ rows_line count = codes "rows " ++ decimal count
 
 -- ---- how a run ends
 
+-- all timestamps were granted
+abbrev pub spent_line : List ℕ
+spent_line = codes "spent"
+
 abbrev pub script_line : ℕ → List ℕ
 script_line line = codes "script " ++ decimal line ++ codes " 0"
 

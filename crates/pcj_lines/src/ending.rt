@@ -1,5 +1,5 @@
 ghost use Rattle.std.specs.Prelude.{◌≡◌, ◌++◌, OnOk};
-ghost use Rattle.pcj_lines.specs.Lines.{ended, script_line, usage_line};
+ghost use Rattle.pcj_lines.specs.Lines.{ended, script_line, spent_line, usage_line};
 
 use pcj_term::{Bytes, Memory};
 use std::alloc::Global;
@@ -10,6 +10,13 @@ pub fn push_refused_line(alloc: Global, out: &mut Bytes, line: u64) -> Result<()
 {
     let line = format!(in alloc; "script {line} 0\n")?;
     out.extend_from_slice(line.as_bytes())
+}
+
+/// Adds `spent`: all timestamps below 2^48 were granted.
+pub fn push_spent(out: &mut Bytes) -> Result<(), Memory>
+    ensures { OnOk result (out.new ≡ out.old ++ ended spent_line) }
+{
+    out.extend_from_slice(b"spent\n")
 }
 
 /// Adds the line that names the commands of the program.

@@ -1,6 +1,6 @@
 use crate::{
     push_committed, push_loaded, push_no_query, push_refused, push_refused_line, push_registered,
-    push_row, push_rows, push_taken, push_usage,
+    push_row, push_rows, push_spent, push_taken, push_usage,
 };
 use pcj_term::{Bytes, Memory};
 use std::alloc::Global;
@@ -19,6 +19,7 @@ fn all_lines(alloc: Global) -> Result<Bytes, Memory> {
     push_row(&mut out, &row)?;
     push_rows(alloc, &mut out, 1)?;
     push_no_query(&mut out, &name)?;
+    push_spent(&mut out)?;
     push_refused_line(alloc, &mut out, 7)?;
     push_usage(&mut out)?;
     Ok(out)
@@ -34,6 +35,7 @@ fn each_kind_of_line_ends_with_a_line_feed(rt: HostRuntime) -> Result<(), Fail> 
         <a>\t<b>\n\
         rows 1\n\
         no query q\n\
+        spent\n\
         script 7 0\n\
         usage: pcj replay | pcj big SEED N | pcj generate SEED N\n";
     assert_eq!(rt; all_lines(rt.alloc())?.as_slice(), expected.as_slice());
