@@ -1,6 +1,6 @@
 -- What a load leaves of a table, act by act.
-use Rattle.std.specs.Prelude.{◌≡◌, ◌↔◌, ◌⊎◌, ℕ, ◌+◌, ◌<◌, ◌≤◌, Bool, true, List, [], ◌++◌, filter, get_or, length, is_none}
-use Rattle.std.specs.List.{All, Contains, IsDistinct}
+use Rattle.std.specs.Prelude.{◌≡◌, ℕ, ◌+◌, ◌<◌, ◌≤◌, Bool, true, List, [], ◌++◌, filter, get_or, length, is_none}
+use Rattle.std.specs.List.{All, IsDistinct}
 use Rattle.pcj_term.specs.declared.triple.Triple.{Triple}
 use Rattle.pcj_term.specs.Triple.{same_triple, distinct}
 use Rattle.pcj_table.specs.declared.mutated.Mutated.{Mutated}
@@ -13,7 +13,7 @@ use Rattle.pcj_rowtables.specs.Rows.{triple_key}
 use Rattle.pcj_mvcc.specs.declared.act.Act.{Act}
 use Rattle.pcj_mvcc.specs.Acts.{prewrite_act, commit_act}
 use Rattle.pcj_mvcc.specs.Reading.{Rows, same_key, acted, allows, standing}
-use Rattle.pcj_sound.specs.Triples.{HasTriples}
+use Rattle.pcj_sound.specs.Triples.{HasTriples, Joins}
 use Rattle.pcj_sound.specs.Fit.{Fit, AreLoadsBelow}
 use Rattle.pcj_sound.specs.Load.{NoCommittedLocks, Settled, IsLoad, load_keys, write_at, locked_rows, committed_rows}
 use Rattle.pcj_sound.specs.Laws.{IsDrawn}
@@ -45,7 +45,7 @@ AbsentAreAdded = (next start : ℕ) (triples loaded : List Triple) (rows : Rows)
 -- with them all of its triples are there
 abbrev pub AddedJoin : Type 0
 AddedJoin = (next : ℕ) (triples loaded : List Triple) (rows : Rows) → Settled next triples rows → All IsTriple loaded →
-    (triple : Triple) → Contains (triples ++ filter (is_absent rows) loaded) triple ↔ (Contains triples triple ⊎ Contains loaded triple)
+    Joins triples (triples ++ filter (is_absent rows) loaded) loaded
 
 -- in a document's list each triple stands once
 abbrev pub DistinctAreOnce : Type 0
