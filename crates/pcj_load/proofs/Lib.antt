@@ -1,0 +1,4 @@
+pub mod EmptyTable
+pub mod LoadingLaws
+pub mod TransactionLaws
+pub mod WalkLaws
