@@ -2,8 +2,9 @@
 //!
 //! `pcj replay` reads a script on standard input, carries out its commands one after the other, and
 //! writes their transcript on standard output. The work is all in the library's top call, which is
-//! generic over where the script comes from and where the transcript goes. This crate gives it the
-//! real ones, standard input and standard output, and the words of the command line.
+//! generic over where the script comes from, where the transcript goes, and the table that keeps the
+//! triples. This crate gives it standard input, standard output, an empty table in memory, and the
+//! words of the command line.
 //!
 //! Both streams are read and written without a buffer of the program's own: the top call reads the
 //! script in large pieces and hands over each command's lines in one write, so that what is written
@@ -19,6 +20,8 @@
 //! | 3 | standard input, which failed |
 //! | 4 | standard output, which failed |
 //! | 5 | memory, which ran out |
+//! | 6 | the timestamps, of which none is left |
+//! | 7 | the table, which failed: one in memory doesn't |
 //!
 //! This crate adds two cases, both before the script is read. Where memory runs out while the words
 //! are collected, the status is 5 and nothing is written. A word that isn't UTF-8 is a word of no
@@ -26,12 +29,14 @@
 //! the usage line and ends with 2.
 //!
 //! What standard input gives and standard output takes is outside every contract. The library's
-//! clauses speak of any source and any sink, and are proved there; what is proved here is that each
-//! call meets the library's conditions, and that the program ends.
+//! clauses speak of any source, any sink and any table, and are proved there; what is proved here is
+//! that each call meets the library's conditions, and that the program ends.
 #![tactic(auto)]
 
 use pcj_io::{StdSink, StdSource};
+use pcj_memtable::MemTable;
 use pcj_replay::replay;
+use pcj_term::Items;
 use std::alloc::AllocError;
 use std::env;
 use std::env::Env;
@@ -61,5 +66,7 @@ fn main(rt: HostRuntime) -> ExitCode {
     };
     let mut source = StdSource::new(rt.stdin());
     let mut sink = StdSink::new(rt.stdout());
-    ExitCode::from(replay(rt.alloc(), &words, &mut source, &mut sink))
+    // none of its calls is to fail
+    let mut table = MemTable::new(rt.alloc(), Items::new(rt.alloc()));
+    ExitCode::from(replay(rt.alloc(), &words, &mut source, &mut sink, &mut table))
 }

@@ -5,9 +5,9 @@ use Rattle.std.proofs.lemmas.List.{take_all, take-append-le, take-map, length-ma
 use Rattle.std.proofs.lemmas.Bool.Decides.{leb_tells}
 use Rattle.pcj_io.specs.Source.{Consumes, EndsWhereNothingIsLeft}
 use Rattle.pcj_replay.specs.declared.input.Input.{Input}
-use Rattle.pcj_replay.specs.declared.script.TheConstants.{SCRIPT_LIMIT}
-use Rattle.pcj_replay.specs.Script.{is_too_long, lines_of, readable_lines, all_but_last}
-use Rattle.pcj_replay.proofs.QueryFrame.{texts}
+use Rattle.pcj_transcript.specs.declared.script.TheConstants.{SCRIPT_LIMIT}
+use Rattle.pcj_transcript.specs.Script.{is_too_long, lines_of, readable_lines, all_but_last}
+use Rattle.pcj_transcript.proofs.QueryFrame.{texts}
 use Rattle.pcj_replay.specs.Input.{Holds, IsRead}
 
 -- what a source gave so far, with its count of faults

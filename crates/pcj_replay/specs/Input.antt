@@ -1,8 +1,8 @@
 -- What is read of a script.
 use Rattle.std.specs.Prelude.{◌≡◌, ℕ, List, take, Option, Some, None}
 use Rattle.pcj_replay.specs.declared.input.Input.{Input}
-use Rattle.pcj_replay.specs.declared.script.TheConstants.{SCRIPT_LIMIT}
-use Rattle.pcj_replay.specs.Script.{is_too_long}
+use Rattle.pcj_transcript.specs.declared.script.TheConstants.{SCRIPT_LIMIT}
+use Rattle.pcj_transcript.specs.Script.{is_too_long}
 
 -- the source tells that these bytes are left, or tells nothing
 abbrev pub Told : Option (List ℕ) → List ℕ → Type 0

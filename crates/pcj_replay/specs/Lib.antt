@@ -1,14 +1,5 @@
-pub mod Front
 pub mod Input
-pub mod Item
-pub mod Law
-pub mod Matching
-pub mod Name
-pub mod Opening
 pub mod Outcome
-pub mod Query
 pub mod Run
-pub mod Script
+pub mod Session
 pub mod Stop
-pub mod Transcript
-pub mod World

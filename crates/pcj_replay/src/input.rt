@@ -1,12 +1,11 @@
 ghost use Rattle.std.specs.Prelude.{◌≡◌, ℕ, List, ◌++◌, map, OnOk, IfOk};
-ghost use Rattle.pcj_replay.specs.Script.{readable_lines};
+ghost use Rattle.pcj_transcript.specs.Script.{readable_lines};
 ghost use Rattle.pcj_replay.specs.Stop.{HasSourceCause};
 
-use crate::script::SCRIPT_LIMIT;
-use crate::split::split_at_byte;
 use crate::stop::Stop;
 use pcj_io::Source;
 use pcj_term::Memory;
+use pcj_transcript::{SCRIPT_LIMIT, split_at_byte};
 use std::alloc::Global;
 
 /// How many bytes are asked for at a time.

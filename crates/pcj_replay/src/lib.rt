@@ -1,31 +1,18 @@
-//! The top call: a script of loads, registrations and questions, carried out into its transcript.
+//! The top call: a script of loads, registrations and questions, carried out over a table into its transcript.
 //!
-//! All bytes are a script in exactly one way, and all commands have exactly one transcript: `one_script` and
-//! `one_transcript` are the proof.
+//! A load is a transaction over the table, and a question is answered from the table's rows. What is written is the
+//! one transcript of the script's commands, and the triples that the table has then are those of its end.
 #![tactic(auto)]
 
-mod answer;
-mod command;
-mod front;
 mod input;
-mod law;
-mod opening;
 mod outcome;
-mod pattern;
-mod query;
-mod query_words;
 mod reply;
+mod response;
 mod run;
-mod script;
-mod slot;
-mod split;
+mod session;
 mod stop;
-mod text;
 mod top;
-mod world;
 
-pub use law::{one_script, one_transcript};
-pub use script::SCRIPT_LIMIT;
 pub use top::replay;
 
 #[cfg(test)]

@@ -12,6 +12,9 @@ pub(crate) enum Outcome {
     SourceFault,
     SinkFault,
     OutOfMemory,
+    /// 2^48 would have been drawn for a command.
+    Spent,
+    TableFault,
 }
 
 impl Outcome {
@@ -25,6 +28,7 @@ impl Outcome {
             Ok(outcome) => outcome,
             Err(Stop::SourceFault) => Outcome::SourceFault,
             Err(Stop::SinkFault) => Outcome::SinkFault,
+            Err(Stop::TableFault) => Outcome::TableFault,
             Err(Stop::Memory) => Outcome::OutOfMemory,
         }
     }
@@ -39,6 +43,8 @@ impl Outcome {
             Outcome::SourceFault => 3,
             Outcome::SinkFault => 4,
             Outcome::OutOfMemory => 5,
+            Outcome::Spent => 6,
+            Outcome::TableFault => 7,
         }
     }
 }

@@ -1,11 +1,11 @@
 ghost use Rattle.std.specs.Prelude.{◌≡◌, ◌+◌, ◌^◌, ◌<◌, [], ◌∷◌, ◌++◌, length, OnOk, IfOk};
-ghost use Rattle.pcj_replay.specs.Transcript.{printed_lines};
+ghost use Rattle.pcj_transcript.specs.Transcript.{printed_lines};
 ghost use Rattle.pcj_lines.specs.Lines.{ended};
 ghost use Rattle.pcj_lines.specs.Lines as lines;
 
 use pcj_lines::{
     push_committed, push_loaded, push_no_query, push_refused, push_refused_line, push_registered,
-    push_row, push_rows, push_taken, push_usage,
+    push_row, push_rows, push_spent, push_taken, push_usage,
 };
 use pcj_term::{Bytes, Memory};
 use std::alloc::Global;
@@ -23,6 +23,45 @@ pub(crate) fn loaded_reply(
     let mut text = Bytes::new(alloc);
     push_loaded(alloc, &mut text, client, number, count)?;
     push_committed(alloc, &mut text, client, number + 1)?;
+    Ok(text)
+}
+
+/// As much of the reply to a load as comes before the number of its commit, and the line that ends the run.
+pub(crate) fn spent_load_reply(
+    alloc: Global,
+    client: u8,
+    number: u64,
+    count: usize,
+) -> Result<Bytes, Memory>
+    ensures { IfOk result (λ text. text ≡ printed_lines (lines.loaded_line client number count ∷ lines.spent_line ∷ [])) }
+{
+    let mut reply = Bytes::new(alloc);
+    push_loaded(alloc, &mut reply, client, number, count)?;
+    push_spent(&mut reply)?;
+    Ok(reply)
+}
+
+/// As much of the reply to a registration as comes before the number of its commit, and the line that ends the run.
+pub(crate) fn spent_registration_reply(
+    alloc: Global,
+    client: u8,
+    number: u64,
+    name: &Bytes,
+) -> Result<Bytes, Memory>
+    ensures { IfOk result (λ text. text ≡ printed_lines (lines.registered_line client number name.now ∷ lines.spent_line ∷ [])) }
+{
+    let mut reply = Bytes::new(alloc);
+    push_registered(alloc, &mut reply, client, number, name)?;
+    push_spent(&mut reply)?;
+    Ok(reply)
+}
+
+/// The line that ends the run where 2^48 would be drawn.
+pub(crate) fn spent_reply(alloc: Global) -> Result<Bytes, Memory>
+    ensures { IfOk result (λ text. text ≡ printed_lines (lines.spent_line ∷ [])) }
+{
+    let mut text = Bytes::new(alloc);
+    push_spent(&mut text)?;
     Ok(text)
 }
 

@@ -2,12 +2,14 @@ ghost use Rattle.std.specs.Prelude.{◌≡◌};
 ghost use Rattle.pcj_replay.specs.declared.stop.Stop.TheVariants.{SourceFault, Memory};
 
 use pcj_io::{Failed, SinkError};
+use pcj_table::TableError;
 
 /// Why a run ends before its script does.
 #[derive(Clone, Copy, PartialEq, Eq)]
 pub(crate) enum Stop {
     SourceFault,
     SinkFault,
+    TableFault,
     Memory,
 }
 
@@ -28,6 +30,19 @@ impl From<SinkError> for Stop {
         match error {
             SinkError::Failed => Stop::SinkFault,
             SinkError::Memory => Stop::Memory,
+        }
+    }
+}
+
+impl From<TableError> for Stop {
+    ghost use Rattle.pcj_replay.specs.Stop.{table_stop};
+
+    ghost from_gives = { λ error stop. stop ≡ table_stop error };
+
+    fn from(error: TableError) -> Stop {
+        match error {
+            TableError::Failed => Stop::TableFault,
+            TableError::Memory => Stop::Memory,
         }
     }
 }

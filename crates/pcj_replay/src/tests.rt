@@ -1,9 +1,15 @@
-ghost use Rattle.std.specs.Prelude.{◌≤◌};
+ghost use Rattle.std.specs.Prelude.{◌≤◌, IfOk};
+ghost use Rattle.pcj_memtable.specs.Entries.{table_of};
+ghost use Rattle.pcj_replay.specs.Session.{IsFresh};
 
 mod documents;
+mod tables;
 
 use super::*;
 use pcj_io::{MemSink, MemSource, StdSink, StdSource};
+use pcj_memtable::MemTable;
+use pcj_term::Items;
+use pcj_transcript::SCRIPT_LIMIT;
 use std::alloc::{AllocError, Global};
 use std::io::Cursor;
 use std::test::Fail;
@@ -26,12 +32,33 @@ struct Streams<'a> {
 
 const WHOLE: usize = 1 << 20;
 
+/// A table without rows, whose calls of these numbers fail.
+fn new_table(alloc: Global, failing: &[u64]) -> Result<MemTable, AllocError>
+    ensures { IfOk result (λ table. IsFresh (table_of table.rows)) }
+{
+    let failing = Items::from_vec(Vec::from_slice(alloc, failing)?);
+    Ok(MemTable::new(alloc, failing))
+}
+
 fn run_with(
     alloc: Global,
     words: &[&str],
     script: &[u8],
     streams: &Streams,
 ) -> Result<Ran, AllocError> {
+    let mut table = new_table(alloc, &[])?;
+    run_over(alloc, words, script, streams, &mut table)
+}
+
+fn run_over(
+    alloc: Global,
+    words: &[&str],
+    script: &[u8],
+    streams: &Streams,
+    table: &mut MemTable,
+) -> Result<Ran, AllocError>
+    requires { IsFresh (table_of table.old.rows) }
+{
     let mut owned = Vec::new(alloc);
     for word in words {
         owned.push(String::from_str(alloc, word)?)?;
@@ -40,7 +67,7 @@ fn run_with(
     let writes = Vec::from_slice(alloc, streams.failing_writes)?;
     let mut source = MemSource::new(Vec::from_slice(alloc, script)?, streams.piece, reads);
     let mut sink = MemSink::new(alloc, streams.piece, writes);
-    let status = replay(alloc, &owned, &mut source, &mut sink);
+    let status = replay(alloc, &owned, &mut source, &mut sink, table);
     Ok(Ran {
         status,
         written: Vec::from_slice(alloc, sink.taken())?,
@@ -391,6 +418,10 @@ fn std_streams_carry_a_script(rt: HostRuntime) -> Result<(), Fail> {
     let words = vec![in alloc; String::from_str(alloc, "replay")?]?;
     let mut source = StdSource::new(Cursor::new(FIRST_SCRIPT));
     let mut sink = StdSink::new(Vec::new(alloc));
-    assert_eq!(rt; replay(alloc, &words, &mut source, &mut sink), 0);
+    let mut table = new_table(alloc, &[])?;
+    assert_eq!(rt;
+        replay(alloc, &words, &mut source, &mut sink, &mut table),
+        0
+    );
     Ok(())
 }

@@ -1,5 +1,5 @@
 use Rattle.std.proofs.Common.{◌≡◌, ◌++◌, drop}
-use Rattle.pcj_replay.specs.Transcript.{printed_lines}
+use Rattle.pcj_transcript.specs.Transcript.{printed_lines}
 use Rattle.pcj_replay.proofs.reply.push_lines.Given as goal
 
 abbrev pub invariant-loop-row : goal.invariant-loop-row

@@ -1,6 +1,9 @@
-use Rattle.pcj_replay.proofs.OutcomeLaws.{shown_causes}
+use Rattle.pcj_replay.specs.Outcome.{outcome_of}
+use Rattle.pcj_replay.proofs.OutcomeLaws.{fresh_fit, replays_fit}
 use Rattle.pcj_replay.proofs.top.outcome.Goals as goal
 
-pub returns-else-is_replay-clause-causes : goal.returns-else-is_replay-clause-causes
-returns-else-is_replay-clause-causes g c =
-    rw c.of-else-is_replay.ensures (shown_causes _ _ _ _ _ _ c.show_usage.result c.show_usage.ensures.done c.show_usage.ensures.cause)
+pub returns-then-is_replay-clause-fit : goal.returns-then-is_replay-clause-fit
+returns-then-is_replay-clause-fit g c = replays_fit _ _ _ _ _ (outcome_of c.replay_script.result) c.requires c.replay_script.ensures.replays
+
+pub returns-else-is_replay-clause-fit : goal.returns-else-is_replay-clause-fit
+returns-else-is_replay-clause-fit g c = fresh_fit (g.T.RowTable.rows c.args.table.now) c.requires

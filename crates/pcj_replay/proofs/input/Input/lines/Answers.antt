@@ -1,5 +1,5 @@
 use Rattle.std.proofs.Common.{rules, ◌≡◌, ℕ, ◌-◌, ap, sym, ◌∙◌, length, take, vec_len}
-use Rattle.pcj_replay.specs.Script.{lines_of}
+use Rattle.pcj_transcript.specs.Script.{lines_of}
 use Rattle.pcj_replay.proofs.InputLaws.{readable_short, readable_long}
 use Rattle.pcj_replay.proofs.input.Input.lines.Goals as goal
 

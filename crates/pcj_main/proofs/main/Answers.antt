@@ -1,0 +1,8 @@
+use Rattle.std.proofs.Common.{subst, sym}
+use Rattle.pcj_memtable.specs.Entries.{Kept, table_of}
+use Rattle.pcj_replay.specs.Session.{IsFresh}
+use Rattle.pcj_replay.proofs.EmptyTable.{nothing_fresh}
+use Rattle.pcj_main.proofs.main.Goals as goal
+
+pub replay-requires : goal.replay-requires
+replay-requires c = subst (λ (kept : Kept). IsFresh (table_of kept.rows)) (sym c.new-table.ensures) nothing_fresh
