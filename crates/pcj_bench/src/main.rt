@@ -2,13 +2,14 @@
 //!
 //! Its first argument names a measure. It makes what the measure works on, or reads a document on standard input,
 //! works on it again and again, and writes how many bytes a second that took, or, of a table of rows, how long a
-//! call took at each number of rows. Nothing here is promised: what is proved is that each call meets its
-//! conditions, and that the program ends. The scripts in `bench/` run it.
+//! call took at each number of rows, or, of loads, how many triples a second were loaded. Nothing here is promised:
+//! what is proved is that each call meets its conditions, and that the program ends. The scripts in `bench/` run it.
 #![tactic(auto)]
 
 mod document;
 mod failure;
 mod join;
+mod loads;
 mod mix;
 mod print;
 mod rate;
@@ -19,6 +20,7 @@ mod split;
 use document::measure_document;
 use failure::Failure;
 use join::measure_join;
+use loads::measure_loads;
 use print::measure_print;
 use read::measure_read;
 use row_table::measure_row_table;
@@ -41,9 +43,16 @@ fn main(rt: HostRuntime) -> Result<(), Failure> {
             }
             return Ok(());
         }
+        Some("loads") => {
+            for triples in [1_000, 10_000, 50_000] {
+                let times = measure_loads(&rt, alloc, triples)?;
+                println!(rt; "{times}")?;
+            }
+            return Ok(());
+        }
         _ => {
             println!(rt;
-                "usage: pcj_bench print_term|read_term|join_parts|split_parts|read_document|row_table"
+                "usage: pcj_bench print_term|read_term|join_parts|split_parts|read_document|row_table|loads"
             )?;
             return Ok(());
         }
