@@ -14,7 +14,7 @@ use Rattle.pcj_replay.specs.declared.run.Ran.TheVariants as ran
 use Rattle.pcj_replay.specs.declared.session.Session.{Session}
 use Rattle.pcj_replay.specs.declared.stop.Stop.{Stop}
 use Rattle.pcj_replay.specs.declared.stop.Stop.TheVariants as stops
-use Rattle.pcj_replay.specs.Session.{Stands, Keeps}
+use Rattle.pcj_replay.specs.Session.{Stands, IsLeftWith}
 use Rattle.pcj_replay.specs.Run.{PrintsAll, PrintsSpent, PrintsFront, CutsWrite, RunStops, WritesReply, WritesSpent, WritesPart, WriteStops}
 use Rattle.pcj_replay.proofs.SessionLaws.{rests_keep}
 
@@ -61,7 +61,7 @@ stands_below state session table stands =
     let below = next_stored session.oracle table stands.rests.clock in
     omega (arith, next, last, below)
 
-pub stands_keep : (state : State) (session : Session) (table : Table) → Stands state session table → Keeps state.triples table
+pub stands_keep : (state : State) (session : Session) (table : Table) → Stands state session table → IsLeftWith state.triples table
 stands_keep state session table stands = rests_keep state.last state.triples session.oracle table stands.rests
 
 transcript_of : (first : ℕ) (commands : List Command) (state : State) (old new : Option (List ℕ)) (ran : HasRun first commands state old new) → state.last < 2 ^ 48 → Transcript first commands (printed ran.replies) state

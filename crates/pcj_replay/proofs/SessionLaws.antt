@@ -29,7 +29,7 @@ use Rattle.pcj_replay.specs.declared.session.Session.{Session}
 use Rattle.pcj_load.specs.Drawing.{IsNumber, NoNumber}
 use Rattle.pcj_transcript.specs.Transcript.{State, start_state, SpentBy, printed_lines}
 use Rattle.pcj_load.specs.Transaction.{Rests, Starts, IsLoaded, IsSpent, LoadLeaves}
-use Rattle.pcj_replay.specs.Session.{Stands, IsFresh, Keeps, Answered, CommitLeaves, Registered, Adds}
+use Rattle.pcj_replay.specs.Session.{Stands, IsFresh, IsLeftWith, Answered, CommitLeaves, Registered, Adds}
 use Rattle.pcj_transcript.specs.declared.query.Query.{Query}
 use Rattle.pcj_transcript.specs.Query.{QueryText, AnswerLines}
 use Rattle.pcj_load.specs.Walking.{TellsTriples}
@@ -45,7 +45,7 @@ rests_fit last triples oracle table rests =
     let next = rests.next in
     drawn_fit (last + 1) oracle table rests.clock (omega (arith, next)) rests.settled.fit
 
-pub rests_keep : (last : ℕ) (triples : List Triple) (oracle : Option Block) (table : Table) → Rests last triples oracle table → Keeps triples table
+pub rests_keep : (last : ℕ) (triples : List Triple) (oracle : Option Block) (table : Table) → Rests last triples oracle table → IsLeftWith triples table
 rests_keep last triples oracle table rests = record {
   fit = rests_fit last triples oracle table rests;
   has = rests.settled.has;
@@ -134,8 +134,8 @@ drawn_fits last number triples oracle oracle' table after rests drawn clock =
 pub undrawn_fits : (last : ℕ) (triples : List Triple) (oracle oracle' : Option Block) (table after : Table) → Rests last triples oracle table → NoNumber oracle table oracle' after → FitTable after
 undrawn_fits last triples oracle oracle' table after rests none = subst FitTable (sym none.same) (rests_fit last triples oracle table rests)
 
-undrawn_keeps : (last : ℕ) (triples : List Triple) (oracle oracle' : Option Block) (table after : Table) → Rests last triples oracle table → NoNumber oracle table oracle' after → Keeps triples after
-undrawn_keeps last triples oracle oracle' table after rests none = subst (Keeps triples) (sym none.same) (rests_keep last triples oracle table rests)
+undrawn_keeps : (last : ℕ) (triples : List Triple) (oracle oracle' : Option Block) (table after : Table) → Rests last triples oracle table → NoNumber oracle table oracle' after → IsLeftWith triples after
+undrawn_keeps last triples oracle oracle' table after rests none = subst (IsLeftWith triples) (sym none.same) (rests_keep last triples oracle table rests)
 
 pub drawn_rests : (last number : ℕ) (triples : List Triple) (oracle oracle' : Option Block) (table after : Table) → Rests last triples oracle table →
     IsNumber number oracle table oracle' after → IsClock oracle' after → Rests number triples oracle' after
@@ -169,7 +169,7 @@ rows_answered state session table after name reply query triples rows stands nam
 
 pub load_spent : (state : State) (session : Session) (table after : Table) (oracle' : Option Block) (client read : ℕ) (text reply : List ℕ) (triples : List Triple) → Stands state session table →
     Document text read triples → NoNumber session.oracle table oracle' after × (next_number session.oracle table ≡ 2 ^ 48) → reply ≡ printed_lines (spent_line ∷ []) →
-    SpentBy state (commands.Load client text) reply × Keeps state.triples after
+    SpentBy state (commands.Load client text) reply × IsLeftWith state.triples after
 load_spent state session table after oracle' client read text reply triples stands document none is =
     let under = document_under text read (state.last + 1) triples document in (
       record {

@@ -11,7 +11,7 @@ use Rattle.pcj_replay.specs.declared.run.Ran.TheVariants as ran
 use Rattle.pcj_replay.specs.declared.session.Session.{Session}
 use Rattle.pcj_replay.specs.declared.stop.Stop.{Stop}
 use Rattle.pcj_replay.specs.declared.stop.Stop.TheVariants as stops
-use Rattle.pcj_replay.specs.Session.{Stands, Keeps}
+use Rattle.pcj_replay.specs.Session.{Stands, IsLeftWith}
 
 -- all of one text is written, and a prefix of the next
 pub record AppendsPart (old new : Option (List ℕ)) (front next : List ℕ) : Type 0 where
@@ -27,7 +27,7 @@ pub record PrintsAll (first : ℕ) (commands : List Command) (old new : Option (
   pub end : State
   pub transcript : Transcript first commands text end
   pub written : Appends old new text
-  pub keeps : Keeps end.triples table
+  pub keeps : IsLeftWith end.triples table
 
 -- that of the commands before one for which 2^48 would be drawn, with what that one answers
 pub record PrintsSpent (first : ℕ) (commands : List Command) (old new : Option (List ℕ)) (table : Table) : Type 0 where
@@ -35,7 +35,7 @@ pub record PrintsSpent (first : ℕ) (commands : List Command) (old new : Option
   pub end : State
   pub transcript : SpentTranscript first commands text end
   pub written : Appends old new text
-  pub keeps : Keeps end.triples table
+  pub keeps : IsLeftWith end.triples table
 
 -- that of the commands, and the line that refuses a line after them
 pub record PrintsRefusal (first : ℕ) (commands : List Command) (line : ℕ) (old new : Option (List ℕ)) (table : Table) : Type 0 where
@@ -43,7 +43,7 @@ pub record PrintsRefusal (first : ℕ) (commands : List Command) (line : ℕ) (o
   pub end : State
   pub transcript : Transcript first commands text end
   pub written : Appends old new (text ++ ended (script_line line))
-  pub keeps : Keeps end.triples table
+  pub keeps : IsLeftWith end.triples table
 
 -- ---- transcripts in part: at most what the last command answers is missing
 
@@ -71,7 +71,7 @@ pub record PrintsReplyPart (first : ℕ) (commands : List Command) (old new : Op
   pub replies : Replies state command reply end
   pub below : end.last < 2 ^ 48
   pub written : AppendsPart old new text reply
-  pub keeps : Keeps end.triples table
+  pub keeps : IsLeftWith end.triples table
 
 -- with a prefix of what the next answers before 2^48 would be drawn, and of the line that says so
 pub record PrintsSpentPart (first : ℕ) (commands : List Command) (old new : Option (List ℕ)) (table : Table) : Type 0 where
@@ -85,7 +85,7 @@ pub record PrintsSpentPart (first : ℕ) (commands : List Command) (old new : Op
   pub last : List ℕ
   pub spent : SpentBy end command last
   pub written : AppendsPart old new text last
-  pub keeps : Keeps end.triples table
+  pub keeps : IsLeftWith end.triples table
 
 -- the transcript of all commands, with a prefix of the line that refuses a line after them
 pub record PrintsRefusalPart (first : ℕ) (commands : List Command) (refused : Option ℕ) (old new : Option (List ℕ)) (table : Table) : Type 0 where
@@ -95,7 +95,7 @@ pub record PrintsRefusalPart (first : ℕ) (commands : List Command) (refused : 
   pub end : State
   pub transcript : Transcript first commands text end
   pub written : AppendsPart old new text (ended (script_line line))
-  pub keeps : Keeps end.triples table
+  pub keeps : IsLeftWith end.triples table
 
 -- a write was cut: the commands so far were carried out
 abbrev pub CutsWrite : ℕ → List Command → Option (List ℕ) → Option (List ℕ) → Table → Type 0
@@ -128,7 +128,7 @@ pub record WritesReply (state : State) (command : Command) (session : Session) (
 pub record WritesSpent (state : State) (command : Command) (table : Table) (old new : Option (List ℕ)) : Type 0 where
   pub text : List ℕ
   pub spent : SpentBy state command text
-  pub keeps : Keeps state.triples table
+  pub keeps : IsLeftWith state.triples table
   pub written : Appends old new text
 
 abbrev pub Writes : State → Command → Session → Table → Option (List ℕ) → Option (List ℕ) → Ran → Type 0
@@ -147,7 +147,7 @@ pub record WritesReplyPart (state : State) (command : Command) (session : Sessio
 pub record WritesSpentPart (state : State) (command : Command) (table : Table) (old new : Option (List ℕ)) : Type 0 where
   pub text : List ℕ
   pub spent : SpentBy state command text
-  pub keeps : Keeps state.triples table
+  pub keeps : IsLeftWith state.triples table
   pub written : AppendsPrefix old new text
 
 abbrev pub WritesPart : State → Command → Session → Table → Option (List ℕ) → Option (List ℕ) → Type 0

@@ -33,7 +33,7 @@ pub record IsFresh (table : Table) : Type 0 where
   pub last : stored_number table ≤ 2 ^ 48
 
 -- a table that has these triples, where no lock is of a committed start
-pub record Keeps (triples : List Triple) (table : Table) : Type 0 where
+pub record IsLeftWith (triples : List Triple) (table : Table) : Type 0 where
   pub fit : FitTable table
   pub has : HasTriples (row_at table) triples
   pub uncommitted : NoCommittedLocks (row_at table)
@@ -43,7 +43,7 @@ pub record Keeps (triples : List Triple) (table : Table) : Type 0 where
 -- a whole reply and the state after it, or as much as could be answered before 2^48 would be drawn
 abbrev pub Answered : State → Command → Session → Table → Response → Type 0
 Answered old command session table (Whole text) = (new : State) × Replies old command text new × Stands new session table
-Answered old command session table (Spent text) = SpentBy old command text × Keeps old.triples table
+Answered old command session table (Spent text) = SpentBy old command text × IsLeftWith old.triples table
 
 -- the triples of a load whose number was drawn have joined, or there is no number for its commit
 abbrev pub CommitLeaves : ℕ → ℕ → List Triple → List Triple → Session → Table → Response → Type 0
@@ -51,7 +51,7 @@ CommitLeaves client number triples loaded session table (Whole text) =
     (text ≡ printed_lines (loaded_line client number (length loaded) ∷ committed_line client (number + 1) ∷ []))
     × (after : List Triple) × Joins triples after loaded × Rests (number + 1) after session.oracle table
 CommitLeaves client number triples loaded session table (Spent text) =
-    (text ≡ printed_lines (loaded_line client number (length loaded) ∷ spent_line ∷ [])) × (number + 1 ≡ 2 ^ 48) × Keeps triples table
+    (text ≡ printed_lines (loaded_line client number (length loaded) ∷ spent_line ∷ [])) × (number + 1 ≡ 2 ^ 48) × IsLeftWith triples table
 
 -- the query is registered
 pub record NamesFree (old : State) (client : ℕ) (name : List ℕ) (query : Query) (text : List ℕ) (new : State) : Type 0 where
@@ -81,7 +81,7 @@ NamesSpent old client name text =
 -- a query is registered under its name, or the name is taken, or there is no number for it
 abbrev pub Registered : State → ℕ → List ℕ → Query → Session → Table → Response → Type 0
 Registered old client name query session table (Whole text) = (new : State) × Names old client name query text new × Stands new session table
-Registered old client name query session table (Spent text) = NamesSpent old client name text × Keeps old.triples table
+Registered old client name query session table (Spent text) = NamesSpent old client name text × IsLeftWith old.triples table
 
 -- the query is registered under a free name and the number that was drawn last, or there is no number for its commit
 abbrev pub Adds : ℕ → List ℕ → Query → ℕ → List Triple → Session → Session → Table → Response → Type 0
@@ -89,4 +89,4 @@ Adds client name query number triples old session table (Whole text) =
     (text ≡ printed_lines (registered_line client number name ∷ committed_line client (number + 1) ∷ []))
     × (session.queries.entries ≡ old.queries.entries ++ (name, query) ∷ []) × Rests (number + 1) triples session.oracle table
 Adds client name query number triples old session table (Spent text) =
-    (text ≡ printed_lines (registered_line client number name ∷ spent_line ∷ [])) × (number + 1 ≡ 2 ^ 48) × Keeps triples table
+    (text ≡ printed_lines (registered_line client number name ∷ spent_line ∷ [])) × (number + 1 ≡ 2 ^ 48) × IsLeftWith triples table
