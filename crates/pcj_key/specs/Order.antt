@@ -1,21 +1,13 @@
 -- The order of keys is that of their parts, and what begins with a key is a range.
 use Rattle.std.specs.Prelude.{◌≡◌, ◌≢◌, ◌↔◌, ℕ, ◌-◌, List, [], ◌∷◌, ◌++◌, length, take}
 use Rattle.std.specs.declared.cmp.Ordering.{Ordering}
-use Rattle.std.specs.declared.cmp.Ordering.TheVariants.{Less}
-use Rattle.std.specs.Ordering.{nat_cmp}
 use Rattle.std.specs.Cmp.Lexicographic.{slice_cmp}
+pub use Rattle.pcj_term.specs.Order.{bytes_cmp, IsBelow}
 use Rattle.pcj_key.specs.Key.{key_of}
-
--- the order of bytes: the first that differ decide, and a list that is a front of the other comes first
-abbrev pub bytes_cmp : List ℕ → List ℕ → Ordering
-bytes_cmp = slice_cmp nat_cmp
 
 -- the order of lists of parts: the first parts that differ decide, and a list that is a front of the other comes first
 abbrev pub parts_cmp : List (List ℕ) → List (List ℕ) → Ordering
 parts_cmp = slice_cmp bytes_cmp
-
-abbrev pub IsBelow : List ℕ → List ℕ → Type 0
-IsBelow bytes other = bytes_cmp bytes other ≡ Less
 
 abbrev pub BeginsWith : {A : Type 0} → List A → List A → Type 0
 BeginsWith front list = (rest : _) × (list ≡ front ++ rest)

@@ -5,7 +5,8 @@ use Rattle.std.specs.FinMap.{get-from_sorted}
 use Rattle.pcj_table.specs.declared.row.Row.{Row}
 use Rattle.pcj_table.specs.Row.{no_row}
 use Rattle.pcj_table.specs.Table.{Key, row_at}
-use Rattle.pcj_memtable.specs.Entries.{key_cmp, entries_of, table_of}
+use Rattle.pcj_memtable.specs.Entries.{entries_of, table_of}
+use Rattle.pcj_term.specs.Order.{bytes_cmp}
 use Rattle.pcj_oracle.specs.Clock.{clock_key, clock_number, stored_number}
 use Rattle.pcj_sound.specs.Fit.{IsClockRow}
 use Rattle.pcj_sound.specs.Laws.{HasClockAlone}
@@ -13,7 +14,7 @@ use Rattle.pcj_load.specs.Transaction.{IsAtRest}
 use Rattle.pcj_load.proofs.TransactionLaws.{alone_rests}
 
 nothing_at : (key : Key) → row_at (table_of []) key ≡ no_row
-nothing_at key = ap (λ (row : Option Row). unwrap_or row no_row) (get-from_sorted key_cmp (entries_of []) key tt)
+nothing_at key = ap (λ (row : Option Row). unwrap_or row no_row) (get-from_sorted bytes_cmp (entries_of []) key tt)
 
 pub nothing_alone : HasClockAlone (row_at (table_of []))
 nothing_alone = record {

@@ -9,29 +9,30 @@ use Rattle.std.proofs.lemmas.Cmp.{nat_list_cmp_total}
 use Rattle.pcj_table.specs.declared.found.Found.{Found}
 use Rattle.pcj_table.specs.declared.row.Row.{Row}
 use Rattle.pcj_table.specs.Table.{Key, is_before, found, first_row, rows_that}
-use Rattle.pcj_memtable.specs.Entries.{key_cmp, entries_of, keys_rise, table_of}
+use Rattle.pcj_memtable.specs.Entries.{entries_of, keys_rise, table_of}
+use Rattle.pcj_term.specs.Order.{bytes_cmp}
 use Rattle.pcj_memtable.specs.Place.{IsRowAt, IsGapAt}
 use Rattle.pcj_memtable.proofs.Places.{back, less_is}
 use Rattle.pcj_memtable.proofs.Edits.{itself, equals}
 use Rattle.pcj_memtable.proofs.Tables.{is_true, entries_are}
 
 -- rows above a low key are above and from any key at or below it, and none is below it
-above_low : (key low : Key) (rows : List Found) → key_cmp key low ≡ Less → below_all key_cmp low (entries_of rows) ≡ true → below_all key_cmp key (entries_of rows) ≡ true
+above_low : (key low : Key) (rows : List Found) → bytes_cmp key low ≡ Less → below_all bytes_cmp low (entries_of rows) ≡ true → below_all bytes_cmp key (entries_of rows) ≡ true
 above_low key low [] lt all = refl
 above_low key low (row ∷ rows) lt all =
     let first = nat_list_cmp_total.trans key low row.key lt (less_is _ (and_parts _ _ all).0) in
     rw first (above_low key low rows lt (and_parts _ _ all).1)
 
-all_above : (key : Key) (rows : List Found) → below_all key_cmp key (entries_of rows) ≡ true → filter (λ row. is_before key row.key) rows ≡ rows
+all_above : (key : Key) (rows : List Found) → below_all bytes_cmp key (entries_of rows) ≡ true → filter (λ row. is_before key row.key) rows ≡ rows
 all_above key [] all = refl
-all_above key (row ∷ rows) all = rw (less_is (key_cmp key row.key) (and_parts _ _ all).0) (ap (λ rs. row ∷ rs) (all_above key rows (and_parts _ _ all).1))
+all_above key (row ∷ rows) all = rw (less_is (bytes_cmp key row.key) (and_parts _ _ all).0) (ap (λ rs. row ∷ rs) (all_above key rows (and_parts _ _ all).1))
 
-all_from : (key : Key) (rows : List Found) → below_all key_cmp key (entries_of rows) ≡ true → filter (λ row. not (is_before row.key key)) rows ≡ rows
+all_from : (key : Key) (rows : List Found) → below_all bytes_cmp key (entries_of rows) ≡ true → filter (λ row. not (is_before row.key key)) rows ≡ rows
 all_from key [] all = refl
 all_from key (row ∷ rows) all =
     rw (back key row.key (less_is _ (and_parts _ _ all).0)) (ap (λ rs. row ∷ rs) (all_from key rows (and_parts _ _ all).1))
 
-none_below : (key : Key) (rows : List Found) → below_all key_cmp key (entries_of rows) ≡ true → filter (λ row. is_before row.key key) rows ≡ []
+none_below : (key : Key) (rows : List Found) → below_all bytes_cmp key (entries_of rows) ≡ true → filter (λ row. is_before row.key key) rows ≡ []
 none_below key [] all = refl
 none_below key (row ∷ rows) all = rw (back key row.key (less_is _ (and_parts _ _ all).0)) (none_below key rows (and_parts _ _ all).1)
 
@@ -40,7 +41,7 @@ none_below key (row ∷ rows) all = rw (back key row.key (less_is _ (and_parts _
 pub above_row : (key : Key) (rows : List Found) (at : ℕ) → keys_rise rows ≡ true → IsRowAt key rows at → drop (suc at) rows ≡ filter (λ row. is_before key row.key) rows
 above_row key [] at sorted is = absurd is
 above_row key (row ∷ rows) zero sorted is =
-    rw (equals key row.key is) (sym (all_above key rows (subst (λ k. below_all key_cmp k (entries_of rows) ≡ true) is (and_parts _ _ sorted).0)))
+    rw (equals key row.key is) (sym (all_above key rows (subst (λ k. below_all bytes_cmp k (entries_of rows) ≡ true) is (and_parts _ _ sorted).0)))
 above_row key (row ∷ rows) (suc at) sorted is = rw (back row.key key is.0) (above_row key rows at (and_parts _ _ sorted).1 is.1)
 
 pub above_gap : (key : Key) (rows : List Found) (at : ℕ) → keys_rise rows ≡ true → IsGapAt key rows at → drop at rows ≡ filter (λ row. is_before key row.key) rows
@@ -52,8 +53,8 @@ above_gap key (row ∷ rows) (suc at) sorted is = rw (back row.key key is.0) (ab
 pub from_row : (key : Key) (rows : List Found) (at : ℕ) → keys_rise rows ≡ true → IsRowAt key rows at → drop at rows ≡ filter (λ row. not (is_before row.key key)) rows
 from_row key [] at sorted is = absurd is
 from_row key (row ∷ rows) zero sorted is =
-    let itself_equal = subst (λ k. key_cmp row.key k ≡ Equal) is (itself row.key) in
-    rw itself_equal (ap (λ rs. row ∷ rs) (sym (all_from key rows (subst (λ k. below_all key_cmp k (entries_of rows) ≡ true) is (and_parts _ _ sorted).0))))
+    let itself_equal = subst (λ k. bytes_cmp row.key k ≡ Equal) is (itself row.key) in
+    rw itself_equal (ap (λ rs. row ∷ rs) (sym (all_from key rows (subst (λ k. below_all bytes_cmp k (entries_of rows) ≡ true) is (and_parts _ _ sorted).0))))
 from_row key (row ∷ rows) (suc at) sorted is = rw is.0 (from_row key rows at (and_parts _ _ sorted).1 is.1)
 
 pub from_gap : (key : Key) (rows : List Found) (at : ℕ) → keys_rise rows ≡ true → IsGapAt key rows at → drop at rows ≡ filter (λ row. not (is_before row.key key)) rows
@@ -66,8 +67,8 @@ from_gap key (row ∷ rows) (suc at) sorted is = rw is.0 (from_gap key rows at (
 pub below_row : (key : Key) (rows : List Found) (at : ℕ) → keys_rise rows ≡ true → IsRowAt key rows at → take at rows ≡ filter (λ row. is_before row.key key) rows
 below_row key [] at sorted is = absurd is
 below_row key (row ∷ rows) zero sorted is =
-    let itself_equal = subst (λ k. key_cmp row.key k ≡ Equal) is (itself row.key) in
-    rw itself_equal (sym (none_below key rows (subst (λ k. below_all key_cmp k (entries_of rows) ≡ true) is (and_parts _ _ sorted).0)))
+    let itself_equal = subst (λ k. bytes_cmp row.key k ≡ Equal) is (itself row.key) in
+    rw itself_equal (sym (none_below key rows (subst (λ k. below_all bytes_cmp k (entries_of rows) ≡ true) is (and_parts _ _ sorted).0)))
 below_row key (row ∷ rows) (suc at) sorted is = rw is.0 (ap (λ rs. row ∷ rs) (below_row key rows at (and_parts _ _ sorted).1 is.1))
 
 pub below_gap : (key : Key) (rows : List Found) (at : ℕ) → keys_rise rows ≡ true → IsGapAt key rows at → take at rows ≡ filter (λ row. is_before row.key key) rows
@@ -81,12 +82,12 @@ below_gap key (row ∷ rows) (suc at) sorted is = rw is.0 (ap (λ rs. row ∷ rs
 entry : Found → Key × Row
 entry row = (row.key, row.row)
 
-pub filter_entries : (p : Key → Bool) (rows : List Found) → entries_of (filter (λ row. p row.key) rows) ≡ where_key key_cmp p (entries_of rows)
+pub filter_entries : (p : Key → Bool) (rows : List Found) → entries_of (filter (λ row. p row.key) rows) ≡ where_key bytes_cmp p (entries_of rows)
 filter_entries p [] = refl
 filter_entries p (row ∷ rows) = by (p row.key) (filter_entries p rows)
   where
-    by : (b : Bool) → entries_of (filter (λ r. p r.key) rows) ≡ where_key key_cmp p (entries_of rows) →
-        entries_of (cond b (row ∷ filter (λ r. p r.key) rows) (filter (λ r. p r.key) rows)) ≡ cond b ((row.key, row.row) ∷ where_key key_cmp p (entries_of rows)) (where_key key_cmp p (entries_of rows))
+    by : (b : Bool) → entries_of (filter (λ r. p r.key) rows) ≡ where_key bytes_cmp p (entries_of rows) →
+        entries_of (cond b (row ∷ filter (λ r. p r.key) rows) (filter (λ r. p r.key) rows)) ≡ cond b ((row.key, row.row) ∷ where_key bytes_cmp p (entries_of rows)) (where_key bytes_cmp p (entries_of rows))
     by true h = ap (λ es. (row.key, row.row) ∷ es) h
     by false h = h
 
@@ -114,7 +115,7 @@ count_among p q (row ∷ rows) = by (p row.key) (q row.row) refl refl (count_amo
 
 pub rises_where : (p : Key → Bool) (rows : List Found) → keys_rise rows ≡ true → keys_rise (filter (λ row. p row.key) rows) ≡ true
 rises_where p rows sorted =
-    is_true _ (subst (λ es. T (finmap.is_sorted key_cmp es)) (sym (filter_entries p rows)) (is_sorted-where_key key_cmp p (entries_of rows) (subst T (sym sorted) tt)))
+    is_true _ (subst (λ es. T (finmap.is_sorted bytes_cmp es)) (sym (filter_entries p rows)) (is_sorted-where_key bytes_cmp p (entries_of rows) (subst T (sym sorted) tt)))
 
 -- what is below an end among what is above a start lies between them
 pub between : (p q : Key → Bool) (rows : List Found) → filter (λ row. q row.key) (filter (λ row. p row.key) rows) ≡ filter (λ row. p row.key && q row.key) rows

@@ -14,7 +14,8 @@ use Rattle.pcj_table.specs.declared.found.Found.{Found}
 use Rattle.pcj_table.specs.declared.row.Row.{Row}
 use Rattle.pcj_table.specs.Row.{no_row, has_nothing}
 use Rattle.pcj_table.specs.Table.{Key, row_at, with_row}
-use Rattle.pcj_memtable.specs.Entries.{key_cmp, entries_of, keys_rise, table_of, IsWithRow}
+use Rattle.pcj_memtable.specs.Entries.{entries_of, keys_rise, table_of, IsWithRow}
+use Rattle.pcj_term.specs.Order.{bytes_cmp}
 use Rattle.pcj_memtable.specs.Place.{IsRowAt, IsGapAt}
 use Rattle.pcj_memtable.proofs.Places.{same_key}
 use Rattle.pcj_memtable.proofs.Edits.{find_row, find_gap, is_other, remove_keeps_others}
@@ -27,10 +28,10 @@ is_true true h = refl
 is_true false h = absurd h
 
 pub entries_are : (rows : List Found) → keys_rise rows ≡ true → finmap.entries (table_of rows) ≡ entries_of rows
-entries_are rows sorted = entries-from_sorted key_cmp (entries_of rows) (holds _ sorted)
+entries_are rows sorted = entries-from_sorted bytes_cmp (entries_of rows) (holds _ sorted)
 
-got : (rows : List Found) (key : Key) → keys_rise rows ≡ true → finmap.get (table_of rows) key ≡ find key_cmp key (entries_of rows)
-got rows key sorted = get-from_sorted key_cmp (entries_of rows) key (holds _ sorted)
+got : (rows : List Found) (key : Key) → keys_rise rows ≡ true → finmap.get (table_of rows) key ≡ find bytes_cmp key (entries_of rows)
+got rows key sorted = get-from_sorted bytes_cmp (entries_of rows) key (holds _ sorted)
 
 pub row_found : (key : Key) (rows : List Found) (at : ℕ) (d : Found) → keys_rise rows ≡ true → IsRowAt key rows at → row_at (table_of rows) key ≡ (get_or rows at d).row
 row_found key rows at d sorted is = ap (λ o. unwrap_or o no_row) (got rows key sorted ∙ find_row key rows at d is)
@@ -40,31 +41,31 @@ row_missing key rows at sorted is = ap (λ o. unwrap_or o no_row) (got rows key 
 
 -- ---- edits
 
-pub with_put : (old new : List Found) (key : Key) (row : Row) → keys_rise old ≡ true → has_nothing row ≡ false → entries_of new ≡ put key_cmp key row (entries_of old) → IsWithRow old new key row
+pub with_put : (old new : List Found) (key : Key) (row : Row) → keys_rise old ≡ true → has_nothing row ≡ false → entries_of new ≡ put bytes_cmp key row (entries_of old) → IsWithRow old new key row
 unfolding with_row
 with_put old new key row sorted some e = record { sorted = sorted'; table = table }
   where
     sorted' : keys_rise new ≡ true
-    sorted' = is_true _ (subst (λ es. T (finmap.is_sorted key_cmp es)) (sym e) (is_sorted-put key_cmp nat_list_cmp_total key row (entries_of old) (holds _ sorted)))
+    sorted' = is_true _ (subst (λ es. T (finmap.is_sorted bytes_cmp es)) (sym e) (is_sorted-put bytes_cmp nat_list_cmp_total key row (entries_of old) (holds _ sorted)))
 
     table : table_of new ≡ with_row (table_of old) key row
     table = rw some (same_entries_map (table_of new) (finmap.insert (table_of old) key row)
-        (entries_are new sorted' ∙ e ∙ ap (put key_cmp key row) (sym (entries_are old sorted)) ∙ sym (entries-insert nat_list_cmp_total (table_of old) key row)))
+        (entries_are new sorted' ∙ e ∙ ap (put bytes_cmp key row) (sym (entries_are old sorted)) ∙ sym (entries-insert nat_list_cmp_total (table_of old) key row)))
 
 equal_is : (r : Ordering) → is_eq r ≡ true → r ≡ Equal
 equal_is Less e = absurd cc
 equal_is Equal e = refl
 equal_is Greater e = absurd cc
 
-antisymmetric : finmap.IsAntisymmetric key_cmp
+antisymmetric : finmap.IsAntisymmetric bytes_cmp
 antisymmetric = slice_cmp-IsAntisymmetric nat_cmp-IsAntisymmetric
 
 cond_not : {A : Type 0} (b : Bool) (x y : A) → cond (not b) x y ≡ cond b y x
 cond_not true x y = refl
 cond_not false x y = refl
 
-flipped : (key other : Key) → eq_by_cmp key_cmp key other ≡ eq_by_cmp key_cmp other key
-flipped key other = ap is_eq (nat_list_cmp_total.antisymm key other) ∙ by (key_cmp other key)
+flipped : (key other : Key) → eq_by_cmp bytes_cmp key other ≡ eq_by_cmp bytes_cmp other key
+flipped key other = ap is_eq (nat_list_cmp_total.antisymm key other) ∙ by (bytes_cmp other key)
   where
     by : (r : Ordering) → is_eq (ordering_reverse r) ≡ is_eq r
     by Less = refl
@@ -75,19 +76,19 @@ pub with_remove : (old : List Found) (at : ℕ) (key : Key) (row : Row) → keys
 unfolding with_row
 with_remove old at key row sorted none is = record { sorted = sorted'; table = table }
   where
-    e : entries_of (remove old at) ≡ where_key key_cmp (is_other key) (entries_of old)
+    e : entries_of (remove old at) ≡ where_key bytes_cmp (is_other key) (entries_of old)
     e = remove_keeps_others key old at sorted is
 
     sorted' : keys_rise (remove old at) ≡ true
-    sorted' = is_true _ (subst (λ es. T (finmap.is_sorted key_cmp es)) (sym e) (is_sorted-where_key key_cmp (is_other key) (entries_of old) (holds _ sorted)))
+    sorted' = is_true _ (subst (λ es. T (finmap.is_sorted bytes_cmp es)) (sym e) (is_sorted-where_key bytes_cmp (is_other key) (entries_of old) (holds _ sorted)))
 
-    alike : (q x : Key) → key_cmp q x ≡ Equal → is_other key x ≡ is_other key q
+    alike : (q x : Key) → bytes_cmp q x ≡ Equal → is_other key x ≡ is_other key q
     alike q x t = ap (λ k. is_other key k) (sym (same_key q x t))
 
     gets : (q : Key) → finmap.get (table_of (remove old at)) q ≡ finmap.get (finmap.remove (table_of old) key) q
-    gets q = got (remove old at) q sorted' ∙ ap (find key_cmp q) e ∙ find-where_key key_cmp (is_other key) q (alike q) (entries_of old)
-        ∙ cond_not (eq_by_cmp key_cmp key q) _ _ ∙ ap (λ b. cond b None (find key_cmp q (entries_of old))) (flipped key q)
-        ∙ ap (cond (eq_by_cmp key_cmp q key) None) (sym (got old q sorted)) ∙ sym (get-remove nat_list_cmp_total (table_of old) key q)
+    gets q = got (remove old at) q sorted' ∙ ap (find bytes_cmp q) e ∙ find-where_key bytes_cmp (is_other key) q (alike q) (entries_of old)
+        ∙ cond_not (eq_by_cmp bytes_cmp key q) _ _ ∙ ap (λ b. cond b None (find bytes_cmp q (entries_of old))) (flipped key q)
+        ∙ ap (cond (eq_by_cmp bytes_cmp q key) None) (sym (got old q sorted)) ∙ sym (get-remove nat_list_cmp_total (table_of old) key q)
 
     table : table_of (remove old at) ≡ with_row (table_of old) key row
     table = rw none (same_map nat_list_cmp_total antisymmetric _ _ gets)
@@ -99,12 +100,12 @@ with_none old at key row sorted none is = record { sorted = sorted; table = rw n
     missing : finmap.get (table_of old) key ≡ None
     missing = got old key sorted ∙ find_gap key old at sorted is
 
-    by : (q : Key) (b : Bool) → eq_by_cmp key_cmp q key ≡ b → finmap.get (table_of old) q ≡ cond b None (finmap.get (table_of old) q)
+    by : (q : Key) (b : Bool) → eq_by_cmp bytes_cmp q key ≡ b → finmap.get (table_of old) q ≡ cond b None (finmap.get (table_of old) q)
     by q true e = ap (finmap.get (table_of old)) (same_key q key (equal_is _ e)) ∙ missing
     by q false e = refl
 
     gets : (q : Key) → finmap.get (table_of old) q ≡ finmap.get (finmap.remove (table_of old) key) q
-    gets q = by q (eq_by_cmp key_cmp q key) refl ∙ sym (get-remove nat_list_cmp_total (table_of old) key q)
+    gets q = by q (eq_by_cmp bytes_cmp q key) refl ∙ sym (get-remove nat_list_cmp_total (table_of old) key q)
 
 -- a table has as many keys as there are rows
 pub as_many : (rows : List Found) → keys_rise rows ≡ true → finmap.len (table_of rows) ≡ length rows

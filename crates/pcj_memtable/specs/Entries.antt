@@ -1,25 +1,20 @@
 -- A vector of rows in ascending order of keys, as a table.
 use Rattle.std.specs.Prelude.{◌≡◌, Bool, true, false, List, [], ◌∷◌, map}
-use Rattle.std.specs.declared.cmp.Ordering.{Ordering}
-use Rattle.std.specs.Ordering.{nat_cmp}
-use Rattle.std.specs.Cmp.Lexicographic.{slice_cmp}
 use Rattle.std.specs.FinMap.{is_sorted}
 use Rattle.std.specs.FinMap as finmap
 use Rattle.pcj_io.specs.Calls.{Calls}
+use Rattle.pcj_term.specs.Order.{bytes_cmp}
 use Rattle.pcj_table.specs.declared.found.Found.{Found}
 use Rattle.pcj_table.specs.declared.row.Row.{Row}
 use Rattle.pcj_table.specs.declared.update.Update.{Update}
 use Rattle.pcj_table.specs.declared.update.Update.TheVariants.{SetLock, DropLock, AddVersion, SetPlain}
 use Rattle.pcj_table.specs.Table.{Key, Table, with_row}
 
-abbrev pub key_cmp : Key → Key → Ordering
-key_cmp = slice_cmp nat_cmp
-
 abbrev pub entries_of : List Found → List (Key × Row)
 entries_of rows = map (λ row. (row.key, row.row)) rows
 
 abbrev pub keys_rise : List Found → Bool
-keys_rise rows = is_sorted key_cmp (entries_of rows)
+keys_rise rows = is_sorted bytes_cmp (entries_of rows)
 
 abbrev pub table_of : List Found → Table
 table_of rows = finmap.from_sorted (entries_of rows)

@@ -1,6 +1,7 @@
 ghost use Rattle.std.specs.Prelude.{◌≡◌, true, length};
 ghost use Rattle.std.specs.List.Sorted.{IsSearchInRange};
-ghost use Rattle.pcj_memtable.specs.Entries.{key_cmp, keys_rise};
+ghost use Rattle.pcj_memtable.specs.Entries.{keys_rise};
+ghost use Rattle.pcj_term.specs.Order.{bytes_cmp};
 ghost use Rattle.pcj_memtable.specs.Place.{IsPlace};
 
 use pcj_table::Found;
@@ -17,7 +18,7 @@ pub(crate) fn place_of(rows: &[Found], key: &[u8]) -> Result<usize, usize>
 
 /// How the row's key compares with another.
 fn compare(row: &Found, key: &[u8]) -> Ordering
-    ensures { result ≡ key_cmp row.now.key key.now }
+    ensures { result ≡ bytes_cmp row.now.key key.now }
 {
     row.key.as_slice().cmp(key)
 }

@@ -3,8 +3,8 @@
 use Rattle.std.specs.Prelude.{◌≡◌, ℕ, Bool, false, cond, ◌==◌, nat_le, List, Option, Some, None, if◌then◌else◌}
 use Rattle.std.specs.List.{find}
 use Rattle.std.specs.Option.{option_map}
-use Rattle.std.specs.Ordering.{nat_cmp, eq_by_cmp}
-use Rattle.std.specs.Cmp.Lexicographic.{slice_cmp}
+use Rattle.std.specs.Ordering.{eq_by_cmp}
+use Rattle.pcj_term.specs.Order.{bytes_cmp}
 use Rattle.pcj_table.specs.declared.lock.Lock.{Lock}
 use Rattle.pcj_table.specs.declared.version.Version.{Version}
 use Rattle.pcj_table.specs.declared.row.Row.{Row}
@@ -18,7 +18,7 @@ abbrev pub Rows : Type 0
 Rows = Key → Row
 
 abbrev pub same_key : Key → Key → Bool
-same_key = eq_by_cmp (slice_cmp nat_cmp)
+same_key = eq_by_cmp bytes_cmp
 
 -- the rows with another one at a key
 abbrev pub put : Rows → Key → Row → Rows

@@ -32,8 +32,8 @@ use Rattle.pcj_sound.proofs.Walks.{is_less, walked_parts, walks_see_triples}
 abbrev Entry : Type 0
 Entry = Key × Row
 
-abbrev key_cmp : Key → Key → Ordering
-key_cmp = slice_cmp nat_cmp
+abbrev bytes_cmp : Key → Key → Ordering
+bytes_cmp = slice_cmp nat_cmp
 
 is_true : (b : Bool) → T b → b ≡ true
 is_true true holds = refl
@@ -44,14 +44,14 @@ is_true false holds = absurd holds
 not_before_itself : (key : Key) → is_before key key ≡ false
 not_before_itself key = ap is_lt (tied_itself nat_list_cmp_total key)
 
-not_back : (key other : Key) → key_cmp key other ≡ Less → is_before other key ≡ false
+not_back : (key other : Key) → bytes_cmp key other ≡ Less → is_before other key ≡ false
 not_back key other less = ap is_lt (nat_list_cmp_total.antisymm other key ∙ ap ordering_reverse less)
 
 -- each key of the entries is above one that is below them all
-above_low : (low : Key) (es : List Entry) (entry : Entry) → below_all key_cmp low es ≡ true → Contains es entry → key_cmp low entry.0 ≡ Less
+above_low : (low : Key) (es : List Entry) (entry : Entry) → below_all bytes_cmp low es ≡ true → Contains es entry → bytes_cmp low entry.0 ≡ Less
 above_low low [] entry all there = absurd (nothing_in entry there)
 above_low low (first ∷ es) entry all there = elim (first_or_later first es entry there) [
-  | inl here ↦ subst (λ (e : Entry). key_cmp low e.0 ≡ Less) here (is_less _ (and_parts _ _ all).0)
+  | inl here ↦ subst (λ (e : Entry). bytes_cmp low e.0 ≡ Less) here (is_less _ (and_parts _ _ all).0)
   | inr later ↦ above_low low es entry (and_parts _ _ all).1 later
 ]
 
@@ -77,12 +77,12 @@ passed_over after end at entry es below =
     cond-false (is_next_at after end at entry) (entry ∷ filter (is_next_at after end at) es) (filter (is_next_at after end at) es) (and_left _ _ (and_left (is_before after entry.0) (is_before entry.0 end) below))
 
 -- of the entries after one that was met the same are met from its key on
-met_from : (after end : Key) (at : ℕ) (first : Entry) (es : List Entry) → below_all key_cmp first.0 es ≡ true → is_next_at after end at first ≡ true →
+met_from : (after end : Key) (at : ℕ) (first : Entry) (es : List Entry) → below_all bytes_cmp first.0 es ≡ true → is_next_at after end at first ≡ true →
     filter (is_next_at after end at) es ≡ filter (is_next_at first.0 end at) (first ∷ es)
 met_from after end at first es above passes =
     same_filter (is_next_at after end at) (is_next_at first.0 end at) es same ∙ sym (passed_over first.0 end at first es (not_before_itself first.0))
   where
-    low : key_cmp after first.0 ≡ Less
+    low : bytes_cmp after first.0 ≡ Less
     low = is_less _ (and_parts _ _ (and_parts (is_between after end first.0) (is_seen_at at first.1) passes).0).0
 
     same : (entry : Entry) → Contains es entry → is_next_at after end at entry ≡ is_next_at first.0 end at entry
@@ -90,12 +90,12 @@ met_from after end at first es above passes =
         let over = above_low first.0 es entry above there in
         ap (λ b. (b && is_before entry.0 end) && is_seen_at at entry.1) (ap is_lt (nat_list_cmp_total.trans after first.0 entry.0 low over) ∙ sym (ap is_lt over))
 
-goes_on : (after end : Key) (at : ℕ) (es : List Entry) (entry : Entry) → is_sorted key_cmp es ≡ true → find (is_next_at after end at) es ≡ Some entry →
+goes_on : (after end : Key) (at : ℕ) (es : List Entry) (entry : Entry) → is_sorted bytes_cmp es ≡ true → find (is_next_at after end at) es ≡ Some entry →
     filter (is_next_at after end at) es ≡ entry ∷ filter (is_next_at entry.0 end at) es
 goes_on after end at [] entry sorted is = absurd cc
 goes_on after end at (first ∷ es) entry sorted is = by (is_next_at after end at first) refl is (λ later. goes_on after end at es entry (and_parts _ _ sorted).1 later)
   where
-    above : below_all key_cmp first.0 es ≡ true
+    above : below_all bytes_cmp first.0 es ≡ true
     above = (and_parts _ _ sorted).0
 
     by : (b : Bool) → is_next_at after end at first ≡ b → cond b (Some first) (find (is_next_at after end at) es) ≡ Some entry →
@@ -119,27 +119,27 @@ none_met test (first ∷ es) is = by (test first) is (λ later. none_met test es
 -- ---- the rows of a table
 
 -- where keys rise, a look-up gives the row that stands with the key
-looked_up : (es : List Entry) (entry : Entry) → is_sorted key_cmp es ≡ true → Contains es entry → entries.find key_cmp entry.0 es ≡ Some entry.1
+looked_up : (es : List Entry) (entry : Entry) → is_sorted bytes_cmp es ≡ true → Contains es entry → entries.find bytes_cmp entry.0 es ≡ Some entry.1
 looked_up [] entry sorted there = absurd (nothing_in entry there)
 looked_up (first ∷ es) entry sorted there = elim (first_or_later first es entry there) [
-  | inl here ↦ subst (λ (e : Entry). entries.find key_cmp e.0 (first ∷ es) ≡ Some e.1) here (cond-true _ _ _ (ap is_eq (tied_itself nat_list_cmp_total first.0)))
+  | inl here ↦ subst (λ (e : Entry). entries.find bytes_cmp e.0 (first ∷ es) ≡ Some e.1) here (cond-true _ _ _ (ap is_eq (tied_itself nat_list_cmp_total first.0)))
   | inr later ↦
       let over = above_low first.0 es entry (and_parts _ _ sorted).0 later in
       cond-false _ _ _ (ap is_eq (nat_list_cmp_total.antisymm entry.0 first.0 ∙ ap ordering_reverse over)) ∙ looked_up es entry (and_parts _ _ sorted).1 later
 ]
 
 -- and what it gives stands there
-there_looked_up : (es : List Entry) (key : Key) (row : Row) → entries.find key_cmp key es ≡ Some row → Contains es (key, row)
+there_looked_up : (es : List Entry) (key : Key) (row : Row) → entries.find bytes_cmp key es ≡ Some row → Contains es (key, row)
 there_looked_up [] key row is = absurd cc
-there_looked_up (first ∷ es) key row is = by (is_eq (key_cmp key first.0)) refl is (λ later. there_looked_up es key row later)
+there_looked_up (first ∷ es) key row is = by (is_eq (bytes_cmp key first.0)) refl is (λ later. there_looked_up es key row later)
   where
-    by : (b : Bool) → is_eq (key_cmp key first.0) ≡ b → cond b (Some first.1) (entries.find key_cmp key es) ≡ Some row → (entries.find key_cmp key es ≡ Some row → Contains es (key, row)) → Contains (first ∷ es) (key, row)
+    by : (b : Bool) → is_eq (bytes_cmp key first.0) ≡ b → cond b (Some first.1) (entries.find bytes_cmp key es) ≡ Some row → (entries.find bytes_cmp key es ≡ Some row → Contains es (key, row)) → Contains (first ∷ es) (key, row)
     by true e is later =
         let same : first.1 ≡ row = cc in
         subst (λ (x : Entry). Contains (first ∷ es) x) (ap (λ k. (k, first.1)) (sym (same_key_is key first.0 e)) ∙ ap (λ r. (key, r)) same) (first_there first es)
     by false e is later = later_there first es (key, row) (later is)
 
-rising : (table : Table) → is_sorted key_cmp (finmap.entries table) ≡ true
+rising : (table : Table) → is_sorted bytes_cmp (finmap.entries table) ≡ true
 rising table = is_true _ (entries_sorted table)
 
 row_there : (table : Table) (entry : Entry) → Contains (finmap.entries table) entry → row_at table entry.0 ≡ entry.1

@@ -2,9 +2,8 @@
 use Rattle.std.specs.Prelude.{◌≡◌, ℕ, Bool, true, false, cond, not, ◌&&◌, List, filter, length, Option, Some, None, is_some}
 use Rattle.std.specs.List.{find}
 use Rattle.std.specs.Option.{option_map, unwrap_or}
-use Rattle.std.specs.Ordering.{nat_cmp, is_lt}
-use Rattle.std.specs.Cmp.Lexicographic.{slice_cmp}
 use Rattle.std.specs.FinMap as map
+pub use Rattle.pcj_term.specs.Order.{bytes_cmp, is_before}
 use Rattle.pcj_table.specs.declared.row.Row.{Row}
 use Rattle.pcj_table.specs.declared.found.Found.{Found}
 use Rattle.pcj_table.specs.declared.cond.Cond.{Cond}
@@ -17,7 +16,7 @@ abbrev pub Key : Type 0
 Key = List ℕ
 
 abbrev pub Table : Type 0
-Table = map.FinMap (slice_cmp nat_cmp) Row
+Table = map.FinMap bytes_cmp Row
 
 -- a key's row; that of a key that isn't there has nothing
 abbrev pub row_at : Table → Key → Row
@@ -30,9 +29,6 @@ with_row table key row = cond (has_nothing row) (map.remove table key) (map.inse
 -- a row as a read gives it
 abbrev pub shown : Row → Option Row
 shown row = cond (has_nothing row) None (Some row)
-
-abbrev pub is_before : Key → Key → Bool
-is_before key other = is_lt (slice_cmp nat_cmp key other)
 
 abbrev pub found : Key × Row → Found
 found entry = record { key = entry.0; row = entry.1 }

@@ -2,6 +2,7 @@ pub mod Integer
 pub mod Iri
 pub mod Label
 pub mod Laws
+pub mod Order
 pub mod Read
 pub mod Reading
 pub mod Tag

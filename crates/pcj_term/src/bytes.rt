@@ -1,8 +1,8 @@
 ghost use Rattle.std.specs.Prelude.{◌==◌, nat_eq, ◌≡◌, ◌↔◌, ◌≤◌, [], ◌∷◌, ◌++◌, length, slice_get, IsTrue, IsNone, IfOk, OnOk, OnErr};
 ghost use Rattle.std.specs.Cmp.Lexicographic.{pointwise};
 ghost use Rattle.std.specs.Cmp.{partial_order_from_own_ties};
-ghost use Rattle.std.specs.Cmp.Lexicographic.{slice_cmp};
-ghost use Rattle.std.specs.Ordering.{nat_cmp, as_partial_cmp};
+ghost use Rattle.pcj_term.specs.Order.{bytes_cmp};
+ghost use Rattle.std.specs.Ordering.{as_partial_cmp};
 ghost use Rattle.std.specs.Hash as fed;
 ghost use Rattle.std.proofs.Common.{rules};
 ghost use Rattle.std.specs.Cmp.Rules.{comparing, hashing};
@@ -148,7 +148,7 @@ impl Hash for Bytes {
 }
 
 impl PartialOrd for Bytes {
-    ghost partial_cmp = { as_partial_cmp (slice_cmp nat_cmp) };
+    ghost partial_cmp = { as_partial_cmp bytes_cmp };
 
     ghost laws = { partial_order_from_own_ties (Prim.search (comparing, rules)) (Prim.search (comparing, rules)) };
 
@@ -158,7 +158,7 @@ impl PartialOrd for Bytes {
 }
 
 impl Ord for Bytes {
-    ghost cmp = { slice_cmp nat_cmp };
+    ghost cmp = { bytes_cmp };
 
     ghost total = { Prim.search (comparing, rules) };
 

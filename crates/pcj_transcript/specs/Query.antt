@@ -2,8 +2,7 @@
 use Rattle.std.specs.Prelude.{◌≡◌, ◌↔◌, ℕ, Bool, true, false, not, ◌&&◌, ◌||◌, List, [], ◌∷◌, ◌++◌, map, codes, Option, Some, None}
 use Rattle.std.specs.List.{list_all, join_with_byte, AllZip, Contains}
 use Rattle.std.specs.List.Sorted.{IsStrictlySortedBy}
-use Rattle.std.specs.Cmp.Lexicographic.{slice_cmp}
-use Rattle.std.specs.Ordering.{nat_cmp}
+use Rattle.pcj_term.specs.Order.{bytes_cmp}
 use Rattle.pcj_term.specs.declared.term.Term.{Term}
 use Rattle.pcj_term.specs.declared.term.Term.TheVariants.{Iri, Blank, Literal}
 use Rattle.pcj_term.specs.declared.triple.Triple.{Triple}
@@ -119,5 +118,5 @@ row_line row = join_with_byte 9 (map printed row)
 
 -- The lines of the query's answer: those of its rows and no others, ascending by bytes, each once.
 pub record AnswerLines (query : Query) (triples : List Triple) (lines : List (List ℕ)) : Type 0 where
-  pub ascend : IsStrictlySortedBy (slice_cmp nat_cmp) lines
+  pub ascend : IsStrictlySortedBy bytes_cmp lines
   pub rows : (line : List ℕ) → Contains lines line ↔ ((row : List Term) × Answer query triples row × (line ≡ row_line row))
