@@ -1,12 +1,14 @@
 -- What holds of rows under each choice of the transactions that may be committed next, and how each act keeps it.
 use Rattle.std.proofs.Common.{◌≡◌, ◌⊎◌, inl, inr, ℕ, Bool, true, false, Option, Some, None, refl, ap, sym, subst, ◌∙◌}
+use Rattle.pcj_term.specs.Order.{same_bytes}
+use Rattle.pcj_term.proofs.ByteLemmas.{same_bytes_are, same_bytes_itself}
 use Rattle.pcj_table.specs.declared.lock.Lock.{Lock}
 use Rattle.pcj_table.specs.declared.row.Row.{Row}
 use Rattle.pcj_table.specs.Table.{Key}
 use Rattle.pcj_mvcc.specs.Acts.{version_of, roll_forward_act}
-use Rattle.pcj_mvcc.specs.Reading.{Rows, same_key, put, acted}
+use Rattle.pcj_mvcc.specs.Reading.{Rows, put, acted}
 use Rattle.pcj_mvcc.specs.Choices.{Choice, committed_row, with_commit, under, choose, IsChoice, ChangeUnderChoice, ChosenIsCommitted, CommittedIsChosen}
-use Rattle.pcj_mvcc.proofs.Rows.{put_same, put_other, same_key_is, same_key_itself, rows_alike}
+use Rattle.pcj_mvcc.proofs.Rows.{put_same, put_other, rows_alike}
 use Rattle.pcj_mvcc.proofs.Laws.{replaced}
 
 -- each choice of these transactions
@@ -15,17 +17,17 @@ UnderEach F ripe rows = (choice : Choice) → IsChoice ripe choice → F (under 
 
 -- ---- a row that is changed, and a choice that is changed
 
-by_key : {P : Type 0} (other key : Key) → (other ≡ key → P) → (same_key other key ≡ false → P) → P
-by_key {P} other key here there = by (same_key other key) refl
+by_key : {P : Type 0} (other key : Key) → (other ≡ key → P) → (same_bytes other key ≡ false → P) → P
+by_key {P} other key here there = by (same_bytes other key) refl
   where
-    by : (b : Bool) → same_key other key ≡ b → P
-    by true e = here (same_key_is other key e)
+    by : (b : Bool) → same_bytes other key ≡ b → P
+    by true e = here (same_bytes_are other key e)
     by false e = there e
 
 pub chosen_here : (choice : Choice) (key : Key) (commit : Option ℕ) → choose choice key commit key ≡ commit
-chosen_here choice key commit = rw (same_key_itself key) refl
+chosen_here choice key commit = rw (same_bytes_itself key) refl
 
-pub chosen_there : (choice : Choice) (key : Key) (commit : Option ℕ) (other : Key) → same_key other key ≡ false → choose choice key commit other ≡ choice other
+pub chosen_there : (choice : Choice) (key : Key) (commit : Option ℕ) (other : Key) → same_bytes other key ≡ false → choose choice key commit other ≡ choice other
 chosen_there choice key commit other differs = rw differs refl
 
 -- a choice that leaves the key out may be made before or after the row is changed
@@ -108,9 +110,9 @@ under_draw F old new rows key lock commit more none locked keeps each choice is 
         (λ same. absurd (let none_is : None ≡ Some c = sym (chosen_here choice key None) ∙ ap (choose choice key None) (sym same) ∙ e in cc))
         (λ differs. from differs (more other c (is other c (sym (chosen_there choice key None other differs) ∙ e))))
       where
-        from : same_key other key ≡ false → old other c ⊎ ((other ≡ key) × (c ≡ commit)) → old other c
+        from : same_bytes other key ≡ false → old other c ⊎ ((other ≡ key) × (c ≡ commit)) → old other c
         from differs (inl h) = h
-        from differs (inr h) = absurd (let same : same_key key key ≡ false = subst (λ k. same_key k key ≡ false) h.0 differs in let itself = same_key_itself key in cc)
+        from differs (inr h) = absurd (let same : same_bytes key key ≡ false = subst (λ k. same_bytes k key ≡ false) h.0 differs in let itself = same_bytes_itself key in cc)
 
     was : choice key ≡ None → IsChoice old choice
     was free other c e = from (more other c (is other c e))

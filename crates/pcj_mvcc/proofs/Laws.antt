@@ -3,6 +3,7 @@ use Rattle.std.proofs.Common.{◌≡◌, ◌≢◌, ◌⊎◌, inl, inr, ◌<◌
 use Rattle.std.proofs.lemmas.Bool.{and_parts, eqb-true, eq-eqb, ltb-true, lt-ltb, leb-false}
 use Rattle.std.specs.List.{list_all}
 use Rattle.std.specs.Option.{option_map}
+use Rattle.pcj_term.proofs.ByteLemmas.{other_bytes}
 use Rattle.pcj_table.specs.declared.lock.Lock.{Lock}
 use Rattle.pcj_table.specs.declared.version.Version.{Version}
 use Rattle.pcj_table.specs.declared.row.Row.{Row}
@@ -16,7 +17,7 @@ use Rattle.pcj_mvcc.specs.Reading.{Rows, put, lock_up_to, commit_of, committed, 
 use Rattle.pcj_mvcc.specs.Times.{ascends, AllVersions, starts_first, TimesInOrder}
 use Rattle.pcj_mvcc.specs.Laws.{ChangesOneRow, ActsOnOneRow, PrewriteKeeps, RollBackKeeps, RollForwardKeeps, CommitKeeps, PlainKeeps, PrimaryCommits, ReadingsDecide, CommitsStand, SameStanding, StandingIsSeen, ReadsAreSeen, PassedRowsShowNothing, PrewriteInOrder, ReplaceInOrder, RollBackInOrder, PlainInOrder, PrewriteNamesOne, ReplaceNamesOne, RollBackNamesOne, PlainNamesOne}
 use Rattle.pcj_mvcc.proofs.Versions.{commit_kept, commit_added, later_added, seen_added, newest_added, version_of_start, below_more, ascends_added, all_added, seen_all}
-use Rattle.pcj_mvcc.proofs.Rows.{put_each, put_same, put_other, other_key, with_row_puts, rows_alike}
+use Rattle.pcj_mvcc.proofs.Rows.{put_each, put_same, put_other, with_row_puts, rows_alike}
 
 -- ---- tables
 
@@ -129,7 +130,7 @@ other_commits rows key primary version one differs other l e = by (version.start
     by : (same : Bool) → (version.start == l.start) ≡ same → committed (put rows key (replaced (rows key) version)) l.primary l.start ≡ committed rows l.primary l.start
     by true same =
         let named : l.primary ≡ primary = one other l e (sym (eqb-true version.start l.start same)) in
-        ap (λ r. commit_of l.start r.versions) (put_other rows key (replaced (rows key) version) l.primary (other_key l.primary key (λ k. differs (sym k ∙ named))))
+        ap (λ r. commit_of l.start r.versions) (put_other rows key (replaced (rows key) version) l.primary (other_bytes l.primary key (λ k. differs (sym k ∙ named))))
     by false same = commits_kept rows key (replaced (rows key) version) l.start (commit_kept l.start version (rows key).versions same) l.primary
 
 pub roll_forward_keeps : RollForwardKeeps

@@ -1,11 +1,12 @@
 -- Rows as they would be if some transactions were committed that have drawn their commit and still have their primary's lock.
 use Rattle.std.specs.Prelude.{◌≡◌, ℕ, cond, Option, Some, None}
+use Rattle.pcj_term.specs.Order.{same_bytes}
 use Rattle.pcj_table.specs.declared.lock.Lock.{Lock}
 use Rattle.pcj_table.specs.declared.row.Row.{Row}
 use Rattle.pcj_table.specs.Row.{updated_all}
 use Rattle.pcj_table.specs.Table.{Key}
 use Rattle.pcj_mvcc.specs.Acts.{version_of, replace_lock_act, roll_forward_act}
-use Rattle.pcj_mvcc.specs.Reading.{Rows, same_key, put, acted}
+use Rattle.pcj_mvcc.specs.Reading.{Rows, put, acted}
 
 -- for the primary of each transaction that is chosen its commit
 abbrev pub Choice : Type 0
@@ -26,7 +27,7 @@ under choice rows key = with_commit (choice key) (rows key)
 
 -- a choice that differs at one key
 abbrev pub choose : Choice → Key → Option ℕ → Choice
-choose choice key commit other = cond (same_key other key) commit (choice other)
+choose choice key commit other = cond (same_bytes other key) commit (choice other)
 
 -- each transaction that is chosen is among these
 abbrev pub IsChoice : (Key → ℕ → Type 0) → Choice → Type 0

@@ -3,8 +3,7 @@
 use Rattle.std.specs.Prelude.{◌≡◌, ℕ, Bool, false, cond, ◌==◌, nat_le, List, Option, Some, None, if◌then◌else◌}
 use Rattle.std.specs.List.{find}
 use Rattle.std.specs.Option.{option_map}
-use Rattle.std.specs.Ordering.{eq_by_cmp}
-use Rattle.pcj_term.specs.Order.{bytes_cmp}
+use Rattle.pcj_term.specs.Order.{same_bytes}
 use Rattle.pcj_table.specs.declared.lock.Lock.{Lock}
 use Rattle.pcj_table.specs.declared.version.Version.{Version}
 use Rattle.pcj_table.specs.declared.row.Row.{Row}
@@ -17,12 +16,9 @@ use Rattle.pcj_mvcc.specs.Acts.{version_of}
 abbrev pub Rows : Type 0
 Rows = Key → Row
 
-abbrev pub same_key : Key → Key → Bool
-same_key = eq_by_cmp bytes_cmp
-
 -- the rows with another one at a key
 abbrev pub put : Rows → Key → Row → Rows
-put rows key row other = cond (same_key other key) row (rows other)
+put rows key row other = cond (same_bytes other key) row (rows other)
 
 -- the rows with an act's updates made at a key
 abbrev pub acted : Rows → Key → Act → Rows

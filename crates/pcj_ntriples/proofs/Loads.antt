@@ -8,8 +8,9 @@ use Rattle.pcj_ntriples.specs.declared.enclosure.Enclosure.TheVariants as enclos
 use Rattle.pcj_term.specs.declared.term.Term.{Term}
 use Rattle.pcj_term.specs.declared.term.Term.TheVariants.{Iri, Blank, Literal}
 use Rattle.pcj_term.specs.declared.triple.Triple.{Triple}
-use Rattle.pcj_term.specs.Triple.{same_bytes, same_term, same_triple, distinct}
+use Rattle.pcj_term.specs.Triple.{same_term, same_triple, distinct}
 use Rattle.pcj_term.specs.Reading.{begins_with}
+use Rattle.pcj_term.specs.Order.{same_bytes}
 use Rattle.pcj_ntriples.specs.declared.kind.NtKind.{NtKind}
 use Rattle.pcj_ntriples.specs.declared.kind.NtKind.TheVariants.{TermTooLong}
 use Rattle.pcj_ntriples.specs.declared.place.Place.{Place}

@@ -2,13 +2,12 @@
 use Rattle.std.proofs.Common.{◌≡◌, ℕ, length, take, Bool, true, false, not, ◌&&◌, ◌||◌, cond, nat_eq, List, [], ◌∷◌, ◌++◌, map, Option, Some, None, Ok, refl, ap, sym, subst, ◌∙◌, append_assoc, append-nil, encode_utf8_all}
 use Rattle.std.specs.Char.{encode_utf8, to_ascii_lowercase}
 use Rattle.std.specs.List.{list_all}
-use Rattle.std.proofs.lemmas.Bool.{and_parts, or_parts, eq-eqb, not-true}
+use Rattle.std.proofs.lemmas.Bool.{and_parts, or_parts, eq-eqb, not-true, and_from}
 use Rattle.std.proofs.lemmas.List.Folds.{list_all-append}
 use Rattle.std.proofs.lemmas.Str.{encodes-append}
 use Rattle.std.proofs.Math.Seq.{take-append_seam}
 use Rattle.pcj_term.specs.Label.{is_label_character}
 use Rattle.pcj_term.specs.Iri.{is_letter, is_digit, is_letter_or_digit}
-use Rattle.pcj_term.proofs.Same.{both_true}
 use Rattle.pcj_ntriples.specs.Term.{IsLongest}
 use Rattle.pcj_ntriples.specs.LineReading.{name_at, label_at, onto_tag, tag_from, lowered, tag_at, is_tag_character, begins_tag_character, begins_label_character}
 use Rattle.pcj_ntriples.proofs.Names.{ends_dot, IsRun, run_of, longest_same, is_hyphen, hyphen_alone, or_true}
@@ -104,7 +103,7 @@ moved_in : (front : List ℕ) (character : ℕ) (rest : List ℕ) → front ++ c
 moved_in front character rest = sym (append_assoc front (character ∷ []) rest)
 
 all_push : (test : ℕ → Bool) (front : List ℕ) (character : ℕ) → list_all test front ≡ true → test character ≡ true → list_all test (front ++ character ∷ []) ≡ true
-all_push test front character all one = list_all-append test front (character ∷ []) ∙ both_true all (both_true one refl)
+all_push test front character all one = list_all-append test front (character ∷ []) ∙ and_from _ _ all (and_from _ _ one refl)
 
 -- a dot may still turn out to stand at the end
 pub label_dot : (label next : List ℕ) (kept : ℕ) (after : List ℕ) (character : ℕ) (rest whole : List ℕ) → LabelSoFar label kept after (character ∷ rest) whole → is_label_character character ≡ true → character ≡ 46 → next ≡ label ++ encode_utf8 character → LabelSoFar next kept after rest whole
@@ -151,7 +150,7 @@ dots_alone (d ∷ dots) characters (x ∷ more) further e stop dotted all =
     let rest : dots ++ characters ≡ more ++ further = cc in
     let parts = and_parts (is_label_character x) (list_all is_label_character more) all in
     let dot = and_parts (nat_eq d 46) (are_dots dots) dotted in
-    both_true (subst (λ (c : ℕ). nat_eq c 46 ≡ true) same dot.0) (dots_alone dots characters more further rest stop dot.1 parts.1)
+    and_from _ _ (subst (λ (c : ℕ). nat_eq c 46 ≡ true) same dot.0) (dots_alone dots characters more further rest stop dot.1 parts.1)
 
 ends_in_dots : (x : ℕ) (more : List ℕ) → are_dots (x ∷ more) ≡ true → ends_dot (x ∷ more) ≡ true
 ends_in_dots x [] dotted = (and_parts (nat_eq x 46) true dotted).0
@@ -171,7 +170,7 @@ is_run characters = list_all is_label_character characters && not (ends_dot char
 
 run_longest : (characters name rest : List ℕ) → IsRun characters name rest → IsLongest is_run name rest
 run_longest characters name rest run = (
-  both_true run.all (ap not run.open_end),
+  and_from _ _ run.all (ap not run.open_end),
   λ more further e h.
       let parts = and_parts (list_all is_label_character (name ++ more)) (not (ends_dot (name ++ more))) h in
       run.long more further e parts.0 (not-true (ends_dot (name ++ more)) parts.1),

@@ -4,7 +4,7 @@ use Rattle.std.specs.Cmp.Lexicographic.{pointwise}
 use Rattle.std.specs.Char.{encode_utf8}
 use Rattle.std.specs.List.{list_all, slice_split, onto_first, take_while}
 use Rattle.std.specs.Str.{all_scalars, is_utf8}
-use Rattle.std.proofs.lemmas.Bool.{and_parts, eqb-true, eq-eqb, ne_eqb, not-true, ltb-false, lt-ltb}
+use Rattle.std.proofs.lemmas.Bool.{and_parts, eqb-true, eq-eqb, ne_eqb, not-true, ltb-false, lt-ltb, and_from}
 use Rattle.std.proofs.lemmas.List.{length-append}
 use Rattle.std.proofs.lemmas.List.Sums.{take_while-cons}
 use Rattle.std.proofs.lemmas.Str.{chars-encodes, is_utf8-from_IsUtf8, len_utf8_bounds, length-encode}
@@ -13,7 +13,6 @@ use Rattle.pcj_term.specs.Iri.{is_letter, is_digit, is_letter_or_digit}
 use Rattle.pcj_term.specs.Label.{is_name_start, is_label_start, is_label_character, begins_label, ends_in_a_dot}
 use Rattle.pcj_term.specs.Tag.{is_subtag, is_language_tag}
 use Rattle.pcj_term.specs.Reading.{begins_with}
-use Rattle.pcj_term.proofs.Same.{both_true}
 use Rattle.pcj_ntriples.specs.Term.{IsLongest, is_label_of, TakesLabel}
 use Rattle.pcj_ntriples.specs.Line.{IsNoTag, IsCutTag}
 use Rattle.pcj_ntriples.specs.LineReading.{onto_name, name_at, onto_tag, tag_from}
@@ -286,7 +285,7 @@ run_of (character ∷ characters) = by (is_label_character character) refl (run_
     onto : (name rest : List ℕ) → is_label_character character ≡ true → IsRun characters name rest → ends_dot (character ∷ name) ≡ false → IsRun (character ∷ characters) (character ∷ name) rest
     onto name rest p run last = record {
       whole = ap (λ (t : List ℕ). character ∷ t) run.whole;
-      all = both_true p run.all;
+      all = and_from _ _ p run.all;
       open_end = last;
       long = λ more further e h k. run.long more further e (and_parts _ (list_all is_label_character (name ++ more)) h).1 (dot_later character (name ++ more) k);
     }
@@ -354,13 +353,13 @@ scalars_parts [] rest are = (refl, are)
 scalars_parts (character ∷ front) rest are =
     let parts = and_parts _ (all_scalars (front ++ rest)) are in
     let later = scalars_parts front rest parts.1 in
-    (both_true parts.0 later.0, later.1)
+    (and_from _ _ parts.0 later.0, later.1)
 
 pub scalars_joined : (front rest : List ℕ) → all_scalars front ≡ true → all_scalars rest ≡ true → all_scalars (front ++ rest) ≡ true
 scalars_joined [] rest are also = also
 scalars_joined (character ∷ front) rest are also =
     let parts = and_parts _ (all_scalars front) are in
-    both_true parts.0 (scalars_joined front rest parts.1 also)
+    and_from _ _ parts.0 (scalars_joined front rest parts.1 also)
 
 -- a label's first character is no dot
 start_no_dot : (character : ℕ) → is_label_start character ≡ true → nat_eq character 46 ≡ false
@@ -375,7 +374,7 @@ start_inside character is = by (is_name_start character) refl
 
 name_begins : (character : ℕ) (characters name rest : List ℕ) → is_label_start character ≡ true → IsRun (character ∷ characters) name rest → begins_label name ≡ true
 name_begins character characters [] rest start run =
-    let none = run.long (character ∷ []) characters (sym run.whole) (both_true (start_inside character start) refl) (start_no_dot character start) in absurd cc
+    let none = run.long (character ∷ []) characters (sym run.whole) (and_from _ _ (start_inside character start) refl) (start_no_dot character start) in absurd cc
 name_begins character characters (x ∷ name) rest start run =
     let same : character ≡ x = let e = run.whole in cc in
     subst (λ (c : ℕ). is_label_start c ≡ true) same start
@@ -385,7 +384,7 @@ run_label : (character : ℕ) (characters name rest : List ℕ) → is_label_sta
 run_label character characters name rest start are run =
     let front = (scalars_parts name rest whole).0 in
     let closed : not (ends_dot name) ≡ true = ap not run.open_end in
-    (label_name name front ∙ both_true (both_true (name_begins character characters name rest start run) run.all) closed, longer)
+    (label_name name front ∙ and_from _ _ (and_from _ _ (name_begins character characters name rest start run) run.all) closed, longer)
   where
     whole : all_scalars (name ++ rest) ≡ true
     whole = subst (λ (t : List ℕ). all_scalars t ≡ true) run.whole are

@@ -4,11 +4,10 @@ use Rattle.std.specs.Char.{digit_value, IsScalar}
 use Rattle.std.specs.List.{list_all, AllByRecursion}
 use Rattle.std.specs.Str.{all_scalars}
 use Rattle.std.specs.Str.Parse.{digits_value_after}
-use Rattle.std.proofs.lemmas.Bool.{and_parts, eqb-true, eq-eqb, not-true, lt-ltb}
+use Rattle.std.proofs.lemmas.Bool.{and_parts, eqb-true, eq-eqb, not-true, lt-ltb, and_from}
 use Rattle.std.proofs.lemmas.List.{length-append}
 use Rattle.std.proofs.lemmas.Option.{cond_some, same_Some}
 use Rattle.std.proofs.Math.Utf8.{scalar_cases}
-use Rattle.pcj_term.proofs.Same.{both_true}
 use Rattle.pcj_ntriples.specs.declared.kind.NtKind.{NtKind}
 use Rattle.pcj_ntriples.specs.declared.kind.NtKind.TheVariants.{IriChar, BadEscape}
 use Rattle.pcj_ntriples.specs.declared.enclosure.Enclosure.{Enclosure}
@@ -40,7 +39,7 @@ digits_taken (suc n) number (digit ∷ characters) found e =
       digits = digit ∷ later.digits;
       whole = ap (λ (t : List ℕ). digit ∷ t) later.whole;
       count = ap suc later.count;
-      are = both_true (and_parts _ _ parts.0).0 later.are;
+      are = and_from _ _ (and_parts _ _ parts.0).0 later.are;
       value = later.value;
     }
 

@@ -1,10 +1,9 @@
 -- A term that is read is what is written there, and what is written there is read.
 use Rattle.std.proofs.Common.{◌≡◌, ℕ, length, drop, Bool, true, false, ◌&&◌, ◌||◌, cond, nat_eq, nat_lt, List, [], ◌∷◌, ◌++◌, Option, Some, None, Result, Ok, Err, refl, ap, sym, subst, ◌∙◌, append_assoc, arith, inl, inr, ◌⊎◌, encode_utf8_all}
 use Rattle.std.specs.List.{list_all}
-use Rattle.std.specs.Str.{all_scalars, bytes_eq}
-use Rattle.std.proofs.lemmas.Bool.{and_parts, or_parts, eqb-true, ltb-true, ltb-false, lt-ltb, le-ltb, false_from_ne_true}
+use Rattle.std.specs.Str.{all_scalars}
+use Rattle.std.proofs.lemmas.Bool.{and_parts, or_parts, eqb-true, ltb-true, ltb-false, lt-ltb, le-ltb, false_from_ne_true, and_from}
 use Rattle.std.proofs.lemmas.List.{length-append}
-use Rattle.std.proofs.lemmas.Slice.Eq.{bytes_eq-Decides}
 use Rattle.std.proofs.lemmas.Str.{encodes-append}
 use Rattle.pcj_term.specs.declared.kind.Kind.{Kind}
 use Rattle.pcj_term.specs.declared.kind.Kind.TheVariants.{Plain, Lang, Typed}
@@ -14,7 +13,8 @@ use Rattle.pcj_term.specs.Iri.{is_absolute}
 use Rattle.pcj_term.specs.Label.{is_label_start, begins_label}
 use Rattle.pcj_term.specs.Reading.{begins_with}
 use Rattle.pcj_term.specs.Valid.{xsd_string}
-use Rattle.pcj_term.proofs.Same.{both_true}
+use Rattle.pcj_term.specs.Order.{same_bytes}
+use Rattle.pcj_term.proofs.ByteLemmas.{same_bytes-Decides}
 use Rattle.pcj_ntriples.specs.declared.kind.NtKind.{NtKind}
 use Rattle.pcj_ntriples.specs.declared.kind.NtKind.TheVariants.{ObjectExpected, BadTag, RelativeIri, TermTooLong}
 use Rattle.pcj_ntriples.specs.declared.enclosure.Enclosure.{Enclosure}
@@ -81,7 +81,7 @@ skip_taken [] = ([], refl, refl, refl)
 skip_taken (character ∷ characters) = by (is_blank character) refl (skip_taken characters)
   where
     by : (v : Bool) → is_blank character ≡ v → Skips characters (skip_blanks characters) → Skips (character ∷ characters) (skip_blanks (character ∷ characters))
-    by true p later = rw p (character ∷ later.0, both_true p later.1, ap (λ (t : List ℕ). character ∷ t) later.2, later.3)
+    by true p later = rw p (character ∷ later.0, and_from _ _ p later.1, ap (λ (t : List ℕ). character ∷ t) later.2, later.3)
     by false p later = rw p ([], refl, refl, p)
 
 pub skip_none : (rest : List ℕ) → begins_blank rest ≡ false → skip_blanks rest ≡ rest
@@ -153,15 +153,15 @@ lang_kind : (after inner : List ℕ) → Skips after (64 ∷ inner) → (o : Opt
 lang_kind after inner skips (Some found) outcome = (inner, skips, (found.0, outcome.0, outcome.1, outcome.2, refl))
 lang_kind after inner skips None outcome = inl (refl, (inner, skips, outcome))
 
-typed_kind : (after datatype rest : List ℕ) (v : Bool) → bytes_eq datatype xsd_string ≡ v → TakesDatatype after datatype rest → TakesKind after (kind_of datatype) rest
-typed_kind after datatype rest true p h = rw p (inr (subst (λ (d : List ℕ). TakesDatatype after d rest) ((bytes_eq-Decides datatype xsd_string).0 p) h))
-typed_kind after datatype rest false p h = rw p (h, λ same. let yes = (bytes_eq-Decides datatype xsd_string).1 same in absurd cc)
+typed_kind : (after datatype rest : List ℕ) (v : Bool) → same_bytes datatype xsd_string ≡ v → TakesDatatype after datatype rest → TakesKind after (kind_of datatype) rest
+typed_kind after datatype rest true p h = rw p (inr (subst (λ (d : List ℕ). TakesDatatype after d rest) ((same_bytes-Decides datatype xsd_string).0 p) h))
+typed_kind after datatype rest false p h = rw p (h, λ same. let yes = (same_bytes-Decides datatype xsd_string).1 same in absurd cc)
 
 datatype_kind : (after marked next : List ℕ) → Skips after (94 ∷ 94 ∷ marked) → Skips marked next → IsKindOutcome after (datatype_at next)
 datatype_kind after marked next skips again = by (begins_with 60 next) refl
   where
     found_by : (inner : List ℕ) → BeforeDatatype after (60 ∷ inner) → (r : Result (List ℕ × List ℕ) NtKind) → IsIriOutcome inner r → IsKindOutcome after (r >>= (λ found. Ok (kind_of found.0, found.1)))
-    found_by inner before (Ok found) outcome = typed_kind after found.0 found.1 (bytes_eq found.0 xsd_string) refl (inner, before, outcome)
+    found_by inner before (Ok found) outcome = typed_kind after found.0 found.1 (same_bytes found.0 xsd_string) refl (inner, before, outcome)
     found_by inner before (Err kind) outcome = inr (inr (inner, before, outcome))
 
     by : (v : Bool) → begins_with 60 next ≡ v → IsKindOutcome after (datatype_at next)
@@ -218,7 +218,7 @@ kind_again after (Lang tag) rest h = let taken = h.2 in
     ∙ ap lang_of (tag_again h.0 taken.0 rest taken.1 taken.2 taken.3)
     ∙ ap (λ (t : List ℕ). Ok (Lang t, rest)) (sym taken.4)
 kind_again after (Typed datatype) rest h =
-    let other = false_from_ne_true (bytes_eq datatype xsd_string) (λ e. h.1 ((bytes_eq-Decides datatype xsd_string).0 e)) in
+    let other = false_from_ne_true (same_bytes datatype xsd_string) (λ e. h.1 ((same_bytes-Decides datatype xsd_string).0 e)) in
     datatype_read after datatype rest h.0 ∙ rw other refl
 
 kind_fault_read : (after : List ℕ) (kind : NtKind) → IsKindFault after kind → kind_at after (skip_blanks after) ≡ Err kind

@@ -3,7 +3,7 @@ use Rattle.std.proofs.Common.{◌≡◌, ℕ, ◌+◌, ◌/◌, ◌%◌, ◌<◌
 use Rattle.std.specs.Char.{encode_utf8, IsScalar, to_ascii_lowercase}
 use Rattle.std.specs.List.{list_all, filter_map, All, AllByRecursion}
 use Rattle.std.specs.Str.{all_scalars, is_utf8, IsAscii}
-use Rattle.std.proofs.lemmas.Bool.{and_parts, eqb-true, leb-true, le-leb, lt-leb, lt-ltb, ne_eqb}
+use Rattle.std.proofs.lemmas.Bool.{and_parts, eqb-true, leb-true, le-leb, lt-leb, lt-ltb, ne_eqb, and_from}
 use Rattle.std.proofs.lemmas.List.Elements.{All-nil, All-cons, All-head, All-tail, All-filter}
 use Rattle.std.proofs.lemmas.List.Folds.{list_all-append}
 use Rattle.std.proofs.lemmas.Option.{same_Some}
@@ -19,7 +19,6 @@ use Rattle.pcj_term.specs.Label.{is_label}
 use Rattle.pcj_term.specs.Tag.{is_language_tag, is_capital, is_lower_case}
 use Rattle.pcj_term.specs.Triple.{same_triple, distinct}
 use Rattle.pcj_term.specs.Valid.{IsValidKind, IsValid}
-use Rattle.pcj_term.proofs.Same.{both_true}
 use Rattle.pcj_ntriples.specs.declared.enclosure.Enclosure.{Enclosure}
 use Rattle.pcj_ntriples.specs.declared.enclosure.Enclosure.TheVariants as enclosures
 use Rattle.pcj_ntriples.specs.declared.place.Place.TheVariants as places
@@ -66,7 +65,7 @@ pieces_scalars enclosure [] good are = refl
 pieces_scalars enclosure (piece ∷ pieces) good are =
     let one = good.0 in
     let parts = scalars_parts piece.written (written_by pieces) are in
-    both_true (piece_scalar enclosure piece one.1 parts.0) (pieces_scalars enclosure pieces good.1 parts.1)
+    and_from _ _ (piece_scalar enclosure piece one.1 parts.0) (pieces_scalars enclosure pieces good.1 parts.1)
 
 text_scalars : (enclosure : Enclosure) (inner text rest : List ℕ) → Closes enclosure inner text rest → all_scalars inner ≡ true → all_scalars text ≡ true
 text_scalars enclosure inner text rest w are =
@@ -75,7 +74,7 @@ text_scalars enclosure inner text rest w are =
 
 pieces_allowed : (pieces : List Piece) → AllByRecursion (IsPiece enclosures.Iri) pieces → list_all is_iri_character (spelled_by pieces) ≡ true
 pieces_allowed [] good = refl
-pieces_allowed (piece ∷ pieces) good = let one = good.0 in both_true one.0 (pieces_allowed pieces good.1)
+pieces_allowed (piece ∷ pieces) good = let one = good.0 in and_from _ _ one.0 (pieces_allowed pieces good.1)
 
 -- ---- IRIs in UTF-8
 
@@ -93,20 +92,20 @@ encoded_character character is = by (nat_lt character 128) (nat_lt character 204
     byte bits = high_byte (128 + bits % 64) (omega arith)
 
     by : (one two three : Bool) → nat_lt character 128 ≡ one → nat_lt character 2048 ≡ two → nat_lt character 65536 ≡ three → list_all is_iri_character (encode_utf8 character) ≡ true
-    by true two three p q r = rw p (both_true is refl)
-    by false true three p q r = rw (p, q) (both_true (high_byte (192 + character / 64) (omega arith)) (both_true (byte character) refl))
+    by true two three p q r = rw p (and_from _ _ is refl)
+    by false true three p q r = rw (p, q) (and_from _ _ (high_byte (192 + character / 64) (omega arith)) (and_from _ _ (byte character) refl))
     by false false true p q r =
-        rw (p, q, r) (both_true (high_byte (224 + character / 4096) (omega arith)) (both_true (byte (character / 64)) (both_true (byte character) refl)))
+        rw (p, q, r) (and_from _ _ (high_byte (224 + character / 4096) (omega arith)) (and_from _ _ (byte (character / 64)) (and_from _ _ (byte character) refl)))
     by false false false p q r =
         rw (p, q, r)
-        (both_true (high_byte (240 + character / 262144) (omega arith)) (both_true (byte (character / 4096)) (both_true (byte (character / 64)) (both_true (byte character) refl))))
+        (and_from _ _ (high_byte (240 + character / 262144) (omega arith)) (and_from _ _ (byte (character / 4096)) (and_from _ _ (byte (character / 64)) (and_from _ _ (byte character) refl))))
 
 encoded_characters : (characters : List ℕ) → list_all is_iri_character characters ≡ true → list_all is_iri_character (encode_utf8_all characters) ≡ true
 encoded_characters [] are = refl
 encoded_characters (character ∷ characters) are =
     let parts = and_parts (is_iri_character character) (list_all is_iri_character characters) are in
     list_all-append is_iri_character (encode_utf8 character) (encode_utf8_all characters)
-    ∙ both_true (encoded_character character parts.0) (encoded_characters characters parts.1)
+    ∙ and_from _ _ (encoded_character character parts.0) (encoded_characters characters parts.1)
 
 iri_valid : (inner iri rest : List ℕ) → TakesIri inner iri rest → all_scalars inner ≡ true → is_absolute_iri iri ≡ true
 iri_valid inner iri rest h are =
@@ -114,7 +113,7 @@ iri_valid inner iri rest h are =
     let scalars = text_scalars enclosures.Iri inner h.0 rest closes are in
     let allowed : list_all is_iri_character h.0 ≡ true = ap (list_all is_iri_character) closes.spelled ∙ pieces_allowed closes.pieces closes.good in
     let absolute : is_absolute (encode_utf8_all h.0) ≡ true = ap is_absolute (sym h.2) ∙ h.3 in
-    ap is_absolute_iri h.2 ∙ both_true (both_true (utf8_encoded h.0 scalars) (encoded_characters h.0 allowed)) absolute
+    ap is_absolute_iri h.2 ∙ and_from _ _ (and_from _ _ (utf8_encoded h.0 scalars) (encoded_characters h.0 allowed)) absolute
 
 -- ---- tags in lower case
 
@@ -167,7 +166,7 @@ lowered digits some (character ∷ characters) is = by some (is_letter character
     first : (then some : Bool) → IsLow (to_ascii_lowercase character) → IsLowered then some characters → (other : Bool) → accepts digits other (to_ascii_lowercase character ∷ map to_ascii_lowercase characters) ≡ true → IsLowered digits other (character ∷ characters)
     first then some low later other here = record {
       accepted = here;
-      lower = both_true (ap not low.0) later.lower;
+      lower = and_from _ _ (ap not low.0) later.lower;
       ascii = IsAscii-cons (to_ascii_lowercase character) (map to_ascii_lowercase characters) low.1 later.ascii;
     }
 

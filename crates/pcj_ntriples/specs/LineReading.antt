@@ -1,7 +1,7 @@
 -- Reading a line from left to right.
 use Rattle.std.specs.Prelude.{ℕ, ◌-◌, Bool, true, false, ◌&&◌, ◌||◌, ◌==◌, nat_lt, List, [], ◌∷◌, length, map, drop, Option, Some, None, Result, Ok, Err, if◌then◌else◌, chars, encode_utf8_all}
 use Rattle.std.specs.Char.{to_ascii_lowercase}
-use Rattle.std.specs.Str.{is_utf8, bytes_eq}
+use Rattle.std.specs.Str.{is_utf8}
 use Rattle.pcj_term.specs.declared.kind.Kind.{Kind}
 use Rattle.pcj_term.specs.declared.kind.Kind.TheVariants.{Plain, Lang, Typed}
 use Rattle.pcj_term.specs.declared.term.Term.{Term}
@@ -11,6 +11,7 @@ use Rattle.pcj_term.specs.Iri.{is_absolute, is_letter, is_digit}
 use Rattle.pcj_term.specs.Label.{is_label_character}
 use Rattle.pcj_term.specs.Reading.{begins_with}
 use Rattle.pcj_term.specs.Valid.{xsd_string}
+use Rattle.pcj_term.specs.Order.{same_bytes}
 use Rattle.pcj_ntriples.specs.declared.enclosure.Enclosure.{Enclosure}
 use Rattle.pcj_ntriples.specs.declared.enclosure.Enclosure.TheVariants as enclosures
 use Rattle.pcj_ntriples.specs.declared.place.Place.{Place}
@@ -92,7 +93,7 @@ lang_at characters = tag_at characters >>= (λ tag. Ok (Lang tag.0, tag.1))
 
 -- the kind of a datatype
 abbrev pub kind_of : List ℕ → Kind
-kind_of datatype = if bytes_eq datatype xsd_string then Plain else Typed datatype
+kind_of datatype = if same_bytes datatype xsd_string then Plain else Typed datatype
 
 -- a datatype after `^^` and blanks
 abbrev pub datatype_at : List ℕ → Result (Kind × List ℕ) NtKind

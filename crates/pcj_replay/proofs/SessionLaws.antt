@@ -5,7 +5,8 @@ use Rattle.std.specs.Map.{lookup}
 use Rattle.pcj_term.specs.declared.term.Term.{Term}
 use Rattle.pcj_term.specs.declared.term.Term.TheVariants as terms
 use Rattle.pcj_term.specs.declared.triple.Triple.{Triple}
-use Rattle.pcj_term.specs.Triple.{same_bytes, same_triple}
+use Rattle.pcj_term.specs.Triple.{same_triple}
+use Rattle.pcj_term.specs.Order.{same_bytes}
 use Rattle.pcj_ntriples.specs.declared.kind.NtKind.{NtKind}
 use Rattle.pcj_ntriples.specs.Document.{Document, DocumentFault}
 use Rattle.pcj_ntriples.specs.Valid.{IsTripleOf, CarriesLoad}

@@ -1,7 +1,7 @@
 ghost use Rattle.std.specs.Map.{lookup};
 ghost use Rattle.std.specs.Prelude.{◌≡◌, List, ◌<◌, ◌^◌, None, [], ◌∷◌, ◌++◌, OnOk, OnErr, IfOk};
 ghost use Rattle.pcj_term.specs.declared.triple.Triple.{Triple};
-ghost use Rattle.pcj_term.specs.Triple.{same_bytes};
+ghost use Rattle.pcj_term.specs.Order.{same_bytes};
 ghost use Rattle.pcj_table.specs.Calls.{HasTableCause};
 ghost use Rattle.pcj_ntriples.specs.Document.{Document};
 ghost use Rattle.pcj_sound.specs.Fit.{FitTable};

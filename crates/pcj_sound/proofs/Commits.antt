@@ -4,6 +4,8 @@ use Rattle.std.proofs.lemmas.Bool.{cases_Bool, eq-eqb, false_from_ne_true}
 use Rattle.std.proofs.lemmas.List.{take_all}
 use Rattle.std.proofs.lemmas.List.Elements.{All-append, Contains-append_left, Contains-append_right, Contains-append_cases}
 use Rattle.pcj_term.specs.declared.triple.Triple.{Triple}
+use Rattle.pcj_term.specs.Order.{same_bytes}
+use Rattle.pcj_term.proofs.ByteLemmas.{same_bytes_itself}
 use Rattle.pcj_table.specs.declared.row.Row.{Row}
 use Rattle.pcj_table.specs.declared.mutated.Mutated.{Mutated}
 use Rattle.pcj_table.specs.declared.mutated.Mutated.TheVariants.{Applied, Rejected}
@@ -17,8 +19,7 @@ use Rattle.pcj_oracle.specs.Clock.{clock_key}
 use Rattle.pcj_rowtables.specs.Rows.{triple_key}
 use Rattle.pcj_mvcc.specs.declared.act.Act.{Act}
 use Rattle.pcj_mvcc.specs.Acts.{commit_act, version_of}
-use Rattle.pcj_mvcc.specs.Reading.{Rows, same_key, acted, put_of, allows, committed, commit_of, standing}
-use Rattle.pcj_mvcc.proofs.Rows.{same_key_itself}
+use Rattle.pcj_mvcc.specs.Reading.{Rows, acted, put_of, allows, committed, commit_of, standing}
 use Rattle.pcj_mvcc.proofs.Laws.{read_committed, acts_on_one_row}
 use Rattle.pcj_sound.specs.Triples.{HasTriples}
 use Rattle.pcj_sound.specs.Load.{IsLoad, is_one_of, load_keys, load_lock, load_version, committed_rows, with_locks, write_at}
@@ -51,7 +52,7 @@ steps_are_taken old new rows after key act done is step mutates =
 made_row : (next start commit : ℕ) (triples added : List Triple) (rows : Rows) (primary : Key) (count : ℕ) → IsLoad next start triples added rows → (key : Key) →
     is_one_of (take count (load_keys added)) key ≡ true → committed_rows start commit primary added count rows key ≡ put_row (load_version start commit)
 made_row next start commit triples added rows primary count load key e =
-    let one = passed_by_first (same_key key) count (load_keys added) e in
+    let one = passed_by_first (same_bytes key) count (load_keys added) e in
     changed_here (take count (load_keys added)) (λ row. updated_all row (DropLock ∷ AddVersion (load_version start commit) ∷ [])) (with_locks (load_keys added) (load_lock start primary) rows) key e
     ∙ ap (λ row. updated_all row (DropLock ∷ AddVersion (load_version start commit) ∷ []))
     (changed_here (load_keys added) (λ row. updated row (SetLock (load_lock start primary))) rows key one ∙ ap (λ row. updated row (SetLock (load_lock start primary))) (empty_before next start triples added rows load key one))
@@ -67,7 +68,7 @@ kept_row : (start commit : ℕ) (added : List Triple) (rows : Rows) (primary : K
     is_one_of (load_keys added) key ≡ false → committed_rows start commit primary added count rows key ≡ rows key
 kept_row start commit added rows primary count key none =
     changed_elsewhere (take count (load_keys added)) (λ row. updated_all row (DropLock ∷ AddVersion (load_version start commit) ∷ [])) (with_locks (load_keys added) (load_lock start primary) rows) key
-    (false_from_ne_true _ (λ e. absurd (let one : is_one_of (load_keys added) key ≡ true = passed_by_first (same_key key) count (load_keys added) e in cc)))
+    (false_from_ne_true _ (λ e. absurd (let one : is_one_of (load_keys added) key ≡ true = passed_by_first (same_bytes key) count (load_keys added) e in cc)))
     ∙ changed_elsewhere (load_keys added) (λ row. updated row (SetLock (load_lock start primary))) rows key none
 
 pub commits_go_on : CommitsGoOn
@@ -195,17 +196,17 @@ is_committed next start commit triples added rows primary count load later start
 
 -- ---- the laws
 
-primary_first : (added : List Triple) (primary : Key) → primary ≡ get_or (load_keys added) 0 primary → same_key primary (get_or (load_keys added) 0 primary) ≡ true
-primary_first added primary is = subst (λ k. same_key primary k ≡ true) is (same_key_itself primary)
+primary_first : (added : List Triple) (primary : Key) → primary ≡ get_or (load_keys added) 0 primary → same_bytes primary (get_or (load_keys added) 0 primary) ≡ true
+primary_first added primary is = subst (λ k. same_bytes primary k ≡ true) is (same_bytes_itself primary)
 
 pub commits_add_triples : CommitsAddTriples
 commits_add_triples next start commit triples added rows primary count load later first some =
-    is_committed next start commit triples added rows primary count load later (passed_by_head (same_key primary) count (load_keys added) primary some (primary_first added primary first))
+    is_committed next start commit triples added rows primary count load later (passed_by_head (same_bytes primary) count (load_keys added) primary some (primary_first added primary first))
 
 all_started : (added : List Triple) (primary : Key) (count : ℕ) → primary ≡ get_or (load_keys added) 0 primary → length (load_keys added) ≤ count → IsStarted added count primary
 all_started [] primary count first all = inl refl
 all_started (triple ∷ added) primary count first all =
-    passed_by_head (same_key primary) count (load_keys (triple ∷ added)) primary (omega (arith, all)) (primary_first (triple ∷ added) primary first)
+    passed_by_head (same_bytes primary) count (load_keys (triple ∷ added)) primary (omega (arith, all)) (primary_first (triple ∷ added) primary first)
 
 pub loads_end : LoadsEnd
 loads_end next start commit triples added rows primary count load later first all = record {

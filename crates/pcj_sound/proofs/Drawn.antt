@@ -5,6 +5,7 @@ use Rattle.std.proofs.lemmas.List.Elements.{All-weaker}
 use Rattle.pcj_term.specs.declared.term.Term.{Term}
 use Rattle.pcj_term.specs.declared.term.Term.TheVariants.{Iri, Blank, Literal}
 use Rattle.pcj_term.specs.declared.triple.Triple.{Triple}
+use Rattle.pcj_term.proofs.ByteLemmas.{other_bytes}
 use Rattle.pcj_table.specs.declared.lock.Lock.{Lock}
 use Rattle.pcj_table.specs.declared.version.Version.{Version}
 use Rattle.pcj_table.specs.declared.row.Row.{Row}
@@ -16,7 +17,7 @@ use Rattle.pcj_oracle.specs.Clock.{clock_key, stored_number, with_number, limit_
 use Rattle.pcj_rowtables.specs.Rows.{triple_key}
 use Rattle.pcj_mvcc.specs.Reading.{Rows, standing, put, put_of, reading, commit_of, SameReading}
 use Rattle.pcj_mvcc.specs.Times.{ascends, starts_first}
-use Rattle.pcj_mvcc.proofs.Rows.{put_same, put_other, other_key}
+use Rattle.pcj_mvcc.proofs.Rows.{put_same, put_other}
 use Rattle.pcj_mvcc.proofs.Laws.{changes_one_row}
 use Rattle.pcj_sound.specs.Fit.{Fit, Decodes, IsDecoded, IsPutBelow, IsLockBelow, IsTripleRow, IsTripleKey, IsLoadBelow, AreLoadsBelow, HasVersion, HasLock, IsClockRow}
 use Rattle.pcj_sound.specs.Triples.{HasTriples}
@@ -186,7 +187,7 @@ draws_are_drawn table number clock = by (number == stored_number table)
     raised : IsDrawn (row_at table) (put (row_at table) clock_key row)
     raised = record {
       clock = subst IsClockRow (sym (put_same (row_at table) clock_key row)) clock_after;
-      others = λ key differs. put_other (row_at table) clock_key row key (other_key key clock_key differs);
+      others = λ key differs. put_other (row_at table) clock_key row key (other_bytes key clock_key differs);
     }
 
     by : (raises : Bool) → IsDrawn (row_at table) (row_at (cond raises (with_number table (limit_after (stored_number table))) table))

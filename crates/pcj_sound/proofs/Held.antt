@@ -5,6 +5,8 @@ use Rattle.std.specs.Option.{option_map}
 use Rattle.std.proofs.lemmas.Bool.{cases_Bool}
 use Rattle.std.proofs.lemmas.List.Elements.{All-nil, All-contains}
 use Rattle.pcj_term.specs.declared.triple.Triple.{Triple}
+use Rattle.pcj_term.specs.Order.{same_bytes}
+use Rattle.pcj_term.proofs.ByteLemmas.{same_bytes_are, same_bytes_itself}
 use Rattle.pcj_table.specs.declared.lock.Lock.{Lock}
 use Rattle.pcj_table.specs.declared.version.Version.{Version}
 use Rattle.pcj_table.specs.declared.plain.Plain.{Plain}
@@ -14,17 +16,16 @@ use Rattle.pcj_table.specs.Table.{Key}
 use Rattle.pcj_encode.specs.declared.order.Order.{Order}
 use Rattle.pcj_oracle.specs.Clock.{clock_key}
 use Rattle.pcj_rowtables.specs.Rows.{triple_key}
-use Rattle.pcj_mvcc.specs.Reading.{Rows, Put, same_key, standing, put_of}
-use Rattle.pcj_mvcc.proofs.Rows.{same_key_is, same_key_itself}
+use Rattle.pcj_mvcc.specs.Reading.{Rows, Put, standing, put_of}
 use Rattle.pcj_mvcc.proofs.Laws.{read_unlocked}
 use Rattle.pcj_sound.specs.Fit.{IsPutBelow, IsLockBelow, IsTripleRow, IsClockRow, Decodes, HasVersion, HasLock}
 use Rattle.pcj_sound.proofs.Lists.{nothing_in, first_there, later_there}
 use Rattle.pcj_sound.proofs.Keys.{not_clock}
 
 pub key_cases : (key other : Key) → (key ≡ other) ⊎ (key ≢ other)
-key_cases key other = elim (cases_Bool (same_key key other)) [
-  | inl same ↦ inl (same_key_is key other same)
-  | inr apart ↦ inr (λ e. absurd (let is : same_key key other ≡ true = subst (λ k. same_key key k ≡ true) e (same_key_itself key) in cc))
+key_cases key other = elim (cases_Bool (same_bytes key other)) [
+  | inl same ↦ inl (same_bytes_are key other same)
+  | inr apart ↦ inr (λ e. absurd (let is : same_bytes key other ≡ true = subst (λ k. same_bytes key k ≡ true) e (same_bytes_itself key) in cc))
 ]
 
 -- ---- rows

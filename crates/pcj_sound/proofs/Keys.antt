@@ -5,7 +5,9 @@ use Rattle.std.proofs.lemmas.Bool.{cases_Bool, or_cases, or_right, false_from_ne
 use Rattle.std.proofs.lemmas.List.Elements.{All-contains, All-head, All-tail}
 use Rattle.pcj_term.specs.Triple.{same_triple}
 use Rattle.pcj_term.proofs.Same.{same_triple_refl}
+use Rattle.pcj_term.proofs.ByteLemmas.{same_bytes_are, same_bytes_itself}
 use Rattle.pcj_term.specs.declared.triple.Triple.{Triple}
+use Rattle.pcj_term.specs.Order.{same_bytes}
 use Rattle.pcj_table.specs.Table.{Key}
 use Rattle.pcj_encode.specs.declared.order.Order.{Order}
 use Rattle.pcj_encode.specs.declared.order.Order.TheVariants.{Spo, Pos, Osp}
@@ -14,8 +16,6 @@ use Rattle.pcj_encode.specs.Name.{IsTriple}
 use Rattle.pcj_encode.proofs.Names.{names_one_row, kinds_are_apart}
 use Rattle.pcj_oracle.specs.Clock.{clock_key}
 use Rattle.pcj_rowtables.specs.Rows.{triple_key}
-use Rattle.pcj_mvcc.specs.Reading.{same_key}
-use Rattle.pcj_mvcc.proofs.Rows.{same_key_is, same_key_itself}
 use Rattle.pcj_sound.specs.Fit.{AreLoadsBelow, IsTripleKey}
 use Rattle.pcj_sound.specs.Load.{is_one_of, load_keys}
 use Rattle.pcj_sound.proofs.Lists.{nothing_in, first_or_later, first_there, later_there, at_recursion, none_passes, none_before}
@@ -43,11 +43,11 @@ pub record IsKeyOf (triples : List Triple) (key : Key) : Type 0 where
 
 pub key_of_one : (triples : List Triple) (key : Key) → is_one_of (load_keys triples) key ≡ true → IsKeyOf triples key
 key_of_one [] key e = absurd cc
-key_of_one (triple ∷ triples) key e = elim (or_cases (same_key key (triple_key Spo triple)) _ e) [
+key_of_one (triple ∷ triples) key e = elim (or_cases (same_bytes key (triple_key Spo triple)) _ e) [
   | inl same ↦ here Spo same
-  | inr others ↦ elim (or_cases (same_key key (triple_key Pos triple)) _ others) [
+  | inr others ↦ elim (or_cases (same_bytes key (triple_key Pos triple)) _ others) [
     | inl same ↦ here Pos same
-    | inr last ↦ elim (or_cases (same_key key (triple_key Osp triple)) _ last) [
+    | inr last ↦ elim (or_cases (same_bytes key (triple_key Osp triple)) _ last) [
       | inl same ↦ here Osp same
       | inr rest ↦
           let found = key_of_one triples key rest in
@@ -56,19 +56,19 @@ key_of_one (triple ∷ triples) key e = elim (or_cases (same_key key (triple_key
   ]
 ]
   where
-    here : (order : Order) → same_key key (triple_key order triple) ≡ true → IsKeyOf (triple ∷ triples) key
-    here order same = record { order = order; triple = triple; there = first_there triple triples; is = same_key_is key (triple_key order triple) same }
+    here : (order : Order) → same_bytes key (triple_key order triple) ≡ true → IsKeyOf (triple ∷ triples) key
+    here order same = record { order = order; triple = triple; there = first_there triple triples; is = same_bytes_are key (triple_key order triple) same }
 
 first_is_one : (first : Triple) (triples : List Triple) (order : Order) → is_one_of (load_keys (first ∷ triples)) (triple_key order first) ≡ true
-first_is_one first triples Spo = rw (same_key_itself (triple_key Spo first)) refl
-first_is_one first triples Pos = rw (same_key_itself (triple_key Pos first)) refl
-first_is_one first triples Osp = rw (same_key_itself (triple_key Osp first)) refl
+first_is_one first triples Spo = rw (same_bytes_itself (triple_key Spo first)) refl
+first_is_one first triples Pos = rw (same_bytes_itself (triple_key Pos first)) refl
+first_is_one first triples Osp = rw (same_bytes_itself (triple_key Osp first)) refl
 
 pub is_one : (triples : List Triple) (order : Order) (triple : Triple) → Contains triples triple → is_one_of (load_keys triples) (triple_key order triple) ≡ true
 is_one [] order triple there = absurd (nothing_in triple there)
 is_one (first ∷ triples) order triple there = elim (first_or_later first triples triple there) [
   | inl here ↦ subst (λ t. is_one_of (load_keys (first ∷ triples)) (triple_key order t) ≡ true) here (first_is_one first triples order)
-  | inr later ↦ or_right (same_key (triple_key order triple) (triple_key Spo first)) _ (or_right (same_key (triple_key order triple) (triple_key Pos first)) _ (or_right (same_key (triple_key order triple) (triple_key Osp first)) _ (is_one triples order triple later)))
+  | inr later ↦ or_right (same_bytes (triple_key order triple) (triple_key Spo first)) _ (or_right (same_bytes (triple_key order triple) (triple_key Pos first)) _ (or_right (same_bytes (triple_key order triple) (triple_key Osp first)) _ (is_one triples order triple later)))
 ]
 
 -- the keys of a triple are all among those of a load, where the load has the triple, and else none is
@@ -102,10 +102,10 @@ load_key_of next triples valid loads key e =
 
 -- ---- distinct keys
 
-flipped : (key other : Key) → same_key key other ≡ true → same_key other key ≡ true
-flipped key other e = subst (λ k. same_key k key ≡ true) (same_key_is key other e) (same_key_itself key)
+flipped : (key other : Key) → same_bytes key other ≡ true → same_bytes other key ≡ true
+flipped key other e = subst (λ k. same_bytes k key ≡ true) (same_bytes_are key other e) (same_bytes_itself key)
 
-pub keys_distinct : (triples : List Triple) → All IsTriple triples → IsDistinct same_triple triples → IsDistinct same_key (load_keys triples)
+pub keys_distinct : (triples : List Triple) → All IsTriple triples → IsDistinct same_triple triples → IsDistinct same_bytes (load_keys triples)
 unfolding IsDistinct
 keys_distinct [] valid once = tt
 keys_distinct (triple ∷ triples) valid once = ((refl, (refl, rest Spo)), ((refl, rest Pos), (rest Osp, keys_distinct triples (All-tail IsTriple triple triples valid) once.1)))
@@ -115,12 +115,12 @@ keys_distinct (triple ∷ triples) valid once = ((refl, (refl, rest Spo)), ((ref
         let apart : same_triple triple triple ≡ false = at_recursion (λ other. same_triple triple other ≡ false) triples triple once.0 there in
         let same : same_triple triple triple ≡ true = same_triple_refl triple in cc)
 
-    rest : (order : Order) → AllByRecursion (λ key. same_key (triple_key order triple) key ≡ false) (load_keys triples)
-    rest order = none_passes (same_key (triple_key order triple)) (load_keys triples)
+    rest : (order : Order) → AllByRecursion (λ key. same_bytes (triple_key order triple) key ≡ false) (load_keys triples)
+    rest order = none_passes (same_bytes (triple_key order triple)) (load_keys triples)
         (false_from_ne_true _ (λ e. absent (has_triple triples order triple (All-tail IsTriple triple triples valid) (All-head IsTriple triple triples valid) e)))
 
 -- the key at a place isn't among those before it
 pub not_yet : (triples : List Triple) (i : ℕ) (key : Key) → All IsTriple triples → IsDistinct same_triple triples → i < length (load_keys triples) → key ≡ get_or (load_keys triples) i key →
     is_one_of (take i (load_keys triples)) key ≡ false
 not_yet triples i key valid once within is =
-    ap (is_one_of (take i (load_keys triples))) is ∙ none_before same_key flipped (load_keys triples) i key (keys_distinct triples valid once) within
+    ap (is_one_of (take i (load_keys triples))) is ∙ none_before same_bytes flipped (load_keys triples) i key (keys_distinct triples valid once) within

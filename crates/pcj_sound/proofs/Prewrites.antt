@@ -5,6 +5,8 @@ use Rattle.std.proofs.lemmas.Bool.{cases_Bool, eqb-true, false_from_ne_true}
 use Rattle.std.proofs.lemmas.List.Folds.{list_any_at}
 use Rattle.std.proofs.lemmas.List.Elements.{All-contains}
 use Rattle.pcj_term.specs.declared.triple.Triple.{Triple}
+use Rattle.pcj_term.specs.Order.{same_bytes}
+use Rattle.pcj_term.proofs.ByteLemmas.{other_bytes, same_bytes_itself}
 use Rattle.pcj_table.specs.declared.lock.Lock.{Lock}
 use Rattle.pcj_table.specs.declared.version.Version.{Version}
 use Rattle.pcj_table.specs.declared.row.Row.{Row}
@@ -16,8 +18,8 @@ use Rattle.pcj_encode.specs.Name.{IsTriple}
 use Rattle.pcj_oracle.specs.Clock.{clock_key}
 use Rattle.pcj_rowtables.specs.Rows.{triple_key}
 use Rattle.pcj_mvcc.specs.Acts.{prewrite_act}
-use Rattle.pcj_mvcc.specs.Reading.{Rows, same_key, put, put_of, allows, committed, commit_of, standing}
-use Rattle.pcj_mvcc.proofs.Rows.{put_same, put_other, other_key, same_key_itself, rows_alike}
+use Rattle.pcj_mvcc.specs.Reading.{Rows, put, put_of, allows, committed, commit_of, standing}
+use Rattle.pcj_mvcc.proofs.Rows.{put_same, put_other, rows_alike}
 use Rattle.pcj_mvcc.proofs.Laws.{read_uncommitted}
 use Rattle.pcj_sound.specs.Fit.{HasVersion, IsClockRow}
 use Rattle.pcj_sound.specs.Load.{IsLoad, is_one_of, load_keys, load_lock, locked_rows, write_at}
@@ -45,7 +47,7 @@ keys_are_distinct next start triples added rows load = keys_distinct added load.
 
 -- the key at a place is among them
 pub one_at : (keys : List Key) (count : ℕ) (key : Key) → count < length keys → key ≡ get_or keys count key → is_one_of keys key ≡ true
-one_at keys count key within is = list_any_at (same_key key) keys count key within (subst (λ k. same_key key k ≡ true) is (same_key_itself key))
+one_at keys count key within is = list_any_at (same_bytes key) keys count key within (subst (λ k. same_bytes key k ≡ true) is (same_bytes_itself key))
 
 -- ---- rows under locks
 
@@ -53,7 +55,7 @@ pub row_locked : (next start : ℕ) (triples added : List Triple) (rows : Rows) 
     is_one_of (take count (load_keys added)) key ≡ true → locked_rows start primary added count rows key ≡ locked_row (load_lock start primary)
 row_locked next start triples added rows primary count load key e =
     changed_here (take count (load_keys added)) (λ row. updated row (SetLock (load_lock start primary))) rows key e
-    ∙ ap (λ row. updated row (SetLock (load_lock start primary))) (empty_before next start triples added rows load key (passed_by_first (same_key key) count (load_keys added) e))
+    ∙ ap (λ row. updated row (SetLock (load_lock start primary))) (empty_before next start triples added rows load key (passed_by_first (same_bytes key) count (load_keys added) e))
 
 pub row_kept : (start : ℕ) (added : List Triple) (rows : Rows) (primary : Key) (count : ℕ) (key : Key) →
     is_one_of (take count (load_keys added)) key ≡ false → locked_rows start primary added count rows key ≡ rows key
@@ -80,7 +82,7 @@ prewrites_write next start triples added rows primary count load = record {
   value = refl;
   is_made = λ version e. absurd cc;
   each = λ key. elim (cases_Bool (is_one_of (take count (load_keys added)) key)) [
-    | inl here ↦ inr (load_key_of (start + 1) added load.adds.valid load.adds.loads key (passed_by_first (same_key key) count (load_keys added) here), inl (row_locked next start triples added rows primary count load key here))
+    | inl here ↦ inr (load_key_of (start + 1) added load.adds.valid load.adds.loads key (passed_by_first (same_bytes key) count (load_keys added) here), inl (row_locked next start triples added rows primary count load key here))
     | inr other ↦ inl (row_kept start added rows primary count key other)
   ];
 }
@@ -110,7 +112,7 @@ prewrites_stand : (next start : ℕ) (triples added : List Triple) (rows : Rows)
 prewrites_stand next start triples added rows primary count load key = elim (cases_Bool (is_one_of (take count (load_keys added)) key)) [
   | inl here ↦
       let row = row_locked next start triples added rows primary count load key here in
-      let empty = empty_before next start triples added rows load key (passed_by_first (same_key key) count (load_keys added) here) in
+      let empty = empty_before next start triples added rows load key (passed_by_first (same_bytes key) count (load_keys added) here) in
       ap (λ vs. put_of (newest vs)) (read_uncommitted (locked_rows start primary added count rows) key (load_lock start primary) (ap (λ (r : Row). r.lock) row) (none_committed next start triples added rows primary count load primary)
       ∙ ap (λ (r : Row). r.versions) row)
       ∙ sym (unlocked_stands rows key (load.settled.unlocked key) ∙ ap (λ (r : Row). put_of (newest r.versions)) empty)
@@ -152,7 +154,7 @@ draws_keep_loads next start triples added old new load drawn = record {
 
 clock_is_unlocked : (added : List Triple) (count : ℕ) → is_one_of (take count (load_keys added)) clock_key ≡ false
 clock_is_unlocked added count = false_from_ne_true _ (λ e. absurd (
-    let one : is_one_of (load_keys added) clock_key ≡ true = passed_by_first (same_key clock_key) count (load_keys added) e in
+    let one : is_one_of (load_keys added) clock_key ≡ true = passed_by_first (same_bytes clock_key) count (load_keys added) e in
     let none : is_one_of (load_keys added) clock_key ≡ false = clock_is_none added in cc))
 
 pub clock_kept : (start : ℕ) (primary : Key) (added : List Triple) (count : ℕ) (rows : Rows) → locked_rows start primary added count rows clock_key ≡ rows clock_key
@@ -163,7 +165,7 @@ draws_pass_locks start primary added count rows old new locked drawn = (
   put rows clock_key (new clock_key),
   record {
     clock = subst IsClockRow (sym (put_same rows clock_key (new clock_key))) drawn.clock;
-    others = λ key other. put_other rows clock_key (new clock_key) key (other_key key clock_key other);
+    others = λ key other. put_other rows clock_key (new clock_key) key (other_bytes key clock_key other);
   },
   rows_alike _ _ (λ key. elim (key_cases key clock_key) [ inl here ↦ at_clock key here | inr other ↦ elsewhere key other ]),
 )
@@ -179,4 +181,4 @@ draws_pass_locks start primary added count rows old new locked drawn = (
     elsewhere key other =
         drawn.others key other
         ∙ ap (λ (r : Rows). r key) locked
-        ∙ ap (λ row. cond (is_one_of (take count (load_keys added)) key) (updated row (SetLock (load_lock start primary))) row) (sym (put_other rows clock_key (new clock_key) key (other_key key clock_key other)))
+        ∙ ap (λ row. cond (is_one_of (take count (load_keys added)) key) (updated row (SetLock (load_lock start primary))) row) (sym (put_other rows clock_key (new clock_key) key (other_bytes key clock_key other)))

@@ -3,6 +3,7 @@ use Rattle.std.specs.Prelude.{◌≡◌, ℕ, ◌+◌, ◌≤◌, Bool, cond, Li
 use Rattle.std.specs.List.{All, Contains, IsDistinct, list_any, flat_map}
 use Rattle.pcj_term.specs.declared.triple.Triple.{Triple}
 use Rattle.pcj_term.specs.Triple.{same_triple}
+use Rattle.pcj_term.specs.Order.{same_bytes}
 use Rattle.pcj_table.specs.declared.lock.Lock.{Lock}
 use Rattle.pcj_table.specs.declared.version.Version.{Version}
 use Rattle.pcj_table.specs.declared.write.Write.{Write}
@@ -11,7 +12,7 @@ use Rattle.pcj_table.specs.Row.{updated, updated_all}
 use Rattle.pcj_table.specs.Table.{Key}
 use Rattle.pcj_encode.specs.Name.{IsTriple}
 use Rattle.pcj_rowtables.specs.Rows.{triple_keys}
-use Rattle.pcj_mvcc.specs.Reading.{Rows, same_key, committed}
+use Rattle.pcj_mvcc.specs.Reading.{Rows, committed}
 use Rattle.pcj_sound.specs.Triples.{HasTriples}
 use Rattle.pcj_sound.specs.Fit.{Fit, AreLoadsBelow}
 
@@ -64,7 +65,7 @@ load_version start commit = record { commit = commit; start = start; value = Som
 -- ---- the rows on the way
 
 abbrev pub is_one_of : List Key → Key → Bool
-is_one_of keys key = list_any (same_key key) keys
+is_one_of keys key = list_any (same_bytes key) keys
 
 -- these keys have the lock, and all other rows are as they were
 abbrev pub with_locks : List Key → Lock → Rows → Rows

@@ -3,6 +3,7 @@ use Rattle.std.specs.Prelude.{◌≡◌, ℕ, ◌+◌, ◌<◌, ◌≤◌, Bool,
 use Rattle.std.specs.List.{All, IsDistinct}
 use Rattle.pcj_term.specs.declared.triple.Triple.{Triple}
 use Rattle.pcj_term.specs.Triple.{same_triple, distinct}
+use Rattle.pcj_term.specs.Order.{same_bytes}
 use Rattle.pcj_table.specs.declared.mutated.Mutated.{Mutated}
 use Rattle.pcj_table.specs.declared.mutated.Mutated.TheVariants.{Applied}
 use Rattle.pcj_table.specs.Table.{Key, Table, row_at, shown, Mutates}
@@ -12,7 +13,7 @@ use Rattle.pcj_oracle.specs.Clock.{clock_key}
 use Rattle.pcj_rowtables.specs.Rows.{triple_key}
 use Rattle.pcj_mvcc.specs.declared.act.Act.{Act}
 use Rattle.pcj_mvcc.specs.Acts.{prewrite_act, commit_act}
-use Rattle.pcj_mvcc.specs.Reading.{Rows, same_key, acted, allows, standing}
+use Rattle.pcj_mvcc.specs.Reading.{Rows, acted, allows, standing}
 use Rattle.pcj_sound.specs.Triples.{HasTriples, Joins}
 use Rattle.pcj_sound.specs.Fit.{Fit, AreLoadsBelow}
 use Rattle.pcj_sound.specs.Load.{NoCommittedLocks, Settled, IsLoad, load_keys, write_at, locked_rows, committed_rows}
@@ -59,7 +60,7 @@ NothingStays = (start commit : ℕ) (primary : Key) (count : ℕ) (rows : Rows) 
 -- ---- the keys of a load
 
 abbrev pub KeysAreDistinct : Type 0
-KeysAreDistinct = (next start : ℕ) (triples added : List Triple) (rows : Rows) → IsLoad next start triples added rows → IsDistinct same_key (load_keys added)
+KeysAreDistinct = (next start : ℕ) (triples added : List Triple) (rows : Rows) → IsLoad next start triples added rows → IsDistinct same_bytes (load_keys added)
 
 -- a load leaves the clock's row, and so the number that is drawn next
 abbrev pub ClockStays : Type 0

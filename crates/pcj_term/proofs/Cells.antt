@@ -3,7 +3,7 @@ use Rattle.std.proofs.Common.{◌≡◌, ℕ, ◌+◌, ◌/◌, ◌%◌, ◌≤�
 use Rattle.std.specs.Char.{encode_utf8}
 use Rattle.std.specs.List.{list_all, slice_split, onto_first}
 use Rattle.std.specs.Str.Parse.{AllDigits}
-use Rattle.std.proofs.lemmas.Bool.{and_parts, eqb-true, ne_eqb}
+use Rattle.std.proofs.lemmas.Bool.{and_parts, eqb-true, ne_eqb, and_from}
 use Rattle.std.proofs.lemmas.List.Folds.{list_all-append}
 use Rattle.std.proofs.lemmas.Option.{same_Some}
 use Rattle.std.proofs.lemmas.Str.{IsUtf8-from_is_utf8, encodes-chars}
@@ -17,7 +17,6 @@ use Rattle.pcj_term.specs.Tag.{is_subtag, is_language_tag}
 use Rattle.pcj_term.specs.Term.{bracketed, escaped, escape_of, quoted, suffix_of}
 use Rattle.pcj_term.specs.Valid.{IsValidKind}
 use Rattle.pcj_term.specs.Laws.{is_within_cell, PrintsOneTerm, ReadsBack, PrintsOneCell}
-use Rattle.pcj_term.proofs.Same.{both_true}
 use Rattle.pcj_term.proofs.Parts.{decimal_digits}
 use Rattle.pcj_term.proofs.Reading.{term_again}
 
@@ -35,7 +34,7 @@ abbrev IsCell : List ℕ → Type 0
 IsCell bytes = list_all is_within_cell bytes ≡ true
 
 cell_append : (front end : List ℕ) → IsCell front → IsCell end → IsCell (front ++ end)
-cell_append front end h k = list_all-append is_within_cell front end ∙ both_true h k
+cell_append front end h k = list_all-append is_within_cell front end ∙ and_from _ _ h k
 
 within_cell : (byte : ℕ) → (byte ≡ 9 → ⊥) → (byte ≡ 10 → ⊥) → is_within_cell byte ≡ true
 within_cell byte tab lf = rw (ne_eqb byte 9 tab, ne_eqb byte 10 lf) refl
@@ -50,13 +49,13 @@ class_cell : (test : ℕ → Bool) → test 9 ≡ false → test 10 ≡ false �
 class_cell test tab lf [] h = refl
 class_cell test tab lf (byte ∷ bytes) h =
     let parts = and_parts (test byte) (list_all test bytes) h in
-    both_true (class_within test tab lf byte parts.0) (class_cell test tab lf bytes parts.1)
+    and_from _ _ (class_within test tab lf byte parts.0) (class_cell test tab lf bytes parts.1)
 
 digits_cell : (digits : List ℕ) → AllDigits 10 digits → IsCell digits
 digits_cell [] all = refl
 digits_cell (d ∷ digits) all =
     let digit = digit_from_value d all.0 in
-    both_true (within_cell d (λ e. omega (arith, digit.0, e)) (λ e. omega (arith, digit.0, e))) (digits_cell digits all.1)
+    and_from _ _ (within_cell d (λ e. omega (arith, digit.0, e)) (λ e. omega (arith, digit.0, e))) (digits_cell digits all.1)
 
 -- a character of more than one byte has no ASCII in it
 encode_cell : (c : ℕ) → is_within_cell c ≡ true → IsCell (encode_utf8 c)
@@ -70,10 +69,10 @@ encode_cell c h = by (nat_lt c 128) (nat_lt c 2048) (nat_lt c 65536) refl refl r
     more bits = lead 128 (bits % 64) (omega arith)
 
     by : (one two three : Bool) → nat_lt c 128 ≡ one → nat_lt c 2048 ≡ two → nat_lt c 65536 ≡ three → IsCell (encode_utf8 c)
-    by true two three p q r = rw p (both_true h refl)
-    by false true three p q r = rw (p, q) (both_true (lead 192 (c / 64) (omega arith)) (both_true (more c) refl))
-    by false false true p q r = rw (p, q, r) (both_true (lead 224 (c / 4096) (omega arith)) (both_true (more (c / 64)) (both_true (more c) refl)))
-    by false false false p q r = rw (p, q, r) (both_true (lead 240 (c / 262144) (omega arith)) (both_true (more (c / 4096)) (both_true (more (c / 64)) (both_true (more c) refl))))
+    by true two three p q r = rw p (and_from _ _ h refl)
+    by false true three p q r = rw (p, q) (and_from _ _ (lead 192 (c / 64) (omega arith)) (and_from _ _ (more c) refl))
+    by false false true p q r = rw (p, q, r) (and_from _ _ (lead 224 (c / 4096) (omega arith)) (and_from _ _ (more (c / 64)) (and_from _ _ (more c) refl)))
+    by false false false p q r = rw (p, q, r) (and_from _ _ (lead 240 (c / 262144) (omega arith)) (and_from _ _ (more (c / 4096)) (and_from _ _ (more (c / 64)) (and_from _ _ (more c) refl))))
 
 encodes_cell : (characters : List ℕ) → IsCell characters → IsCell (encode_utf8_all characters)
 encodes_cell [] h = refl
@@ -105,22 +104,22 @@ parts_cell (byte ∷ tag) h = by (nat_eq byte 45) refl (parts_cell tag)
     onto (part ∷ parts) k =
         let both = and_parts _ _ k in
         let first = and_parts (is_letter_or_digit byte) (list_all is_letter_or_digit part) both.0 in
-        (first.0, both_true first.1 both.1)
+        (first.0, and_from _ _ first.1 both.1)
 
     by : (v : Bool) → nat_eq byte 45 ≡ v → (ArePlain (slice_split (λ byte. nat_eq byte 45) tag) → IsCell tag) → IsCell (byte ∷ tag)
     by true is later =
         let rest = rw is at h in
-        both_true (within_cell byte (λ e. omega (arith, e, eqb-true byte 45 is)) (λ e. omega (arith, e, eqb-true byte 45 is))) (later rest)
+        and_from _ _ (within_cell byte (λ e. omega (arith, e, eqb-true byte 45 is)) (λ e. omega (arith, e, eqb-true byte 45 is))) (later rest)
     by false is later =
         let whole = rw is at h in
         let parts = onto (slice_split (λ byte. nat_eq byte 45) tag) whole in
-        both_true (class_within is_letter_or_digit refl refl byte parts.0) (later parts.1)
+        and_from _ _ (class_within is_letter_or_digit refl refl byte parts.0) (later parts.1)
 
 subtags_letters : (parts : List (List ℕ)) → list_all is_subtag parts ≡ true → list_all (list_all is_letter_or_digit) parts ≡ true
 subtags_letters [] h = refl
 subtags_letters (part ∷ parts) h =
     let both = and_parts (is_subtag part) (list_all is_subtag parts) h in
-    both_true (and_parts _ _ both.0).1 (subtags_letters parts both.1)
+    and_from _ _ (and_parts _ _ both.0).1 (subtags_letters parts both.1)
 
 tag_cell : (tag : List ℕ) → is_language_tag tag ≡ true → IsCell tag
 tag_cell tag h =

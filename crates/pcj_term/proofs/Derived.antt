@@ -6,10 +6,11 @@ use Rattle.pcj_term.specs.declared.kind.Kind.TheVariants.{Plain, Lang, Typed}
 use Rattle.pcj_term.specs.declared.term.Term.{Term}
 use Rattle.pcj_term.specs.declared.term.Term.TheVariants.{Iri, Blank, Literal}
 use Rattle.pcj_term.specs.declared.triple.Triple.{Triple}
-use Rattle.pcj_term.specs.Triple.{same_bytes, same_kind, same_term, same_triple}
+use Rattle.pcj_term.specs.Triple.{same_kind, same_term, same_triple}
 use Rattle.pcj_term.specs.contracts.kind.KindPartialEq.TheImpl as kinds
 use Rattle.pcj_term.specs.contracts.term.TermPartialEq.TheImpl as terms
 use Rattle.pcj_term.specs.contracts.triple.TriplePartialEq.TheImpl as triples
+use Rattle.pcj_term.specs.Order.{same_bytes}
 
 kind_eq : (a b : Kind) → (kinds.eq-value).it a b ≡ same_kind a b
 kind_eq Plain Plain = refl

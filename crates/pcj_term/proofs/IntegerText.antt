@@ -5,10 +5,9 @@ use Rattle.std.specs.Int.{w64}
 use Rattle.std.specs.Result.{result_ok}
 use Rattle.std.specs.Str.{IsUtf8, IsAscii, all_ascii_digits}
 use Rattle.std.specs.Str.Parse.{AllDigits, IsNumeral, ParsesSigned, digits_value, without_leading_sign, signed_digits_value}
-use Rattle.std.proofs.lemmas.Bool.{and_parts, eqb-true, ltb-true, ltb-false, lt-ltb, le-ltb, not-true}
+use Rattle.std.proofs.lemmas.Bool.{and_parts, eqb-true, ltb-true, ltb-false, lt-ltb, le-ltb, not-true, and_from}
 use Rattle.std.proofs.lemmas.Str.{IsUtf8-from_ascii}
 use Rattle.std.proofs.lemmas.Str.Parse.{IsNumeralModel, numerals_by_value, tells_all_ascii_digits, digit_from_value}
-use Rattle.pcj_term.proofs.Same.{both_true}
 use Rattle.pcj_term.specs.Integer.{is_integer_text, is_i64, integer_text}
 
 pub digits_tested : IsNumeralModel (λ ds. all_ascii_digits ds ≡ true) (digits_value 10)
@@ -28,7 +27,7 @@ numeral_from_test text h =
     (ltb-true 0 _ parts.0, digits_tested.to _ parts.1)
 
 test_from_numeral : (text : List ℕ) → IsNumeral 10 (without_leading_sign text) → is_integer_text text ≡ true
-test_from_numeral text h = both_true (lt-ltb 0 _ h.0) (digits_tested.from _ h.1)
+test_from_numeral text h = and_from _ _ (lt-ltb 0 _ h.0) (digits_tested.from _ h.1)
 
 pub parsed : {E : Type 0} (text : List ℕ) (r : Result ℤ E) → ParsesSigned w64 10 text r → result_ok r ≡ integer_text text
 unfolding integer_text

@@ -1,3 +1,4 @@
+pub mod ByteLemmas
 pub mod Cells
 pub mod Derived
 pub mod Escapes

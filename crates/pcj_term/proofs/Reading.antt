@@ -1,9 +1,8 @@
 -- What is read from bytes is a valid term that prints them, and what a valid term prints is read again.
 use Rattle.std.proofs.Common.{◌≡◌, ◌≢◌, ℕ, ◌<◌, ◌^◌, Bool, true, false, ◌&&◌, cond, nat_eq, List, [], ◌∷◌, ◌++◌, Option, Some, None, refl, ap, sym, subst, ◌∙◌, append_assoc, arith, option_map, decimal}
-use Rattle.std.specs.Str.{bytes_eq, is_utf8}
+use Rattle.std.specs.Str.{is_utf8}
 use Rattle.std.proofs.lemmas.Bool.{and_parts, eqb-true, false_from_ne_true}
 use Rattle.std.proofs.lemmas.Option.{cond_some, same_Some}
-use Rattle.std.proofs.lemmas.Slice.Eq.{bytes_eq-Decides}
 use Rattle.pcj_term.specs.declared.kind.Kind.{Kind}
 use Rattle.pcj_term.specs.declared.kind.Kind.TheVariants.{Plain, Lang, Typed}
 use Rattle.pcj_term.specs.declared.term.Term.{Term}
@@ -15,8 +14,10 @@ use Rattle.pcj_term.specs.Term.{printed, bracketed, node_name, quoted, escaped, 
 use Rattle.pcj_term.specs.Valid.{IsValid, IsValidKind, xsd_string}
 use Rattle.pcj_term.specs.Read.{Reads}
 use Rattle.pcj_term.specs.Reading.{begins_with, after, before, cut, iri_of, number_of, node_of, text_at, kind_of, lang_of, typed_of, literal_of, term_of}
+use Rattle.pcj_term.specs.Order.{same_bytes}
 use Rattle.pcj_term.proofs.Parts.{bind_some, after_takes, before_takes, before_again, cut_takes, cut_digits, number_takes, number_again, decimal_digits}
 use Rattle.pcj_term.proofs.Escapes.{text_takes, text_again}
+use Rattle.pcj_term.proofs.ByteLemmas.{same_bytes-Decides}
 
 map_some : {A B : Type 0} (f : A → B) (o : Option A) (y : B) → option_map f o ≡ Some y → (x : A) × (o ≡ Some x) × (f x ≡ y)
 map_some f None y e = absurd cc
@@ -73,13 +74,13 @@ lang_takes tag kind e =
 typed_takes : (brackets : List ℕ) (kind : Kind) → typed_of brackets ≡ Some kind → IsValidKind kind × (suffix_of kind ≡ 94 ∷ 94 ∷ brackets)
 typed_takes brackets kind e =
     let found = bind_some (iri_of brackets) _ kind e in
-    by found.0 (bytes_eq found.0 xsd_string) refl (iri_takes brackets found.0 found.1) found.2
+    by found.0 (same_bytes found.0 xsd_string) refl (iri_takes brackets found.0 found.1) found.2
   where
-    by : (datatype : List ℕ) (v : Bool) → bytes_eq datatype xsd_string ≡ v → (is_absolute_iri datatype ≡ true) × (bracketed datatype ≡ brackets) → cond (bytes_eq datatype xsd_string) None (Some (Typed datatype)) ≡ Some kind → IsValidKind kind × (suffix_of kind ≡ 94 ∷ 94 ∷ brackets)
+    by : (datatype : List ℕ) (v : Bool) → same_bytes datatype xsd_string ≡ v → (is_absolute_iri datatype ≡ true) × (bracketed datatype ≡ brackets) → cond (same_bytes datatype xsd_string) None (Some (Typed datatype)) ≡ Some kind → IsValidKind kind × (suffix_of kind ≡ 94 ∷ 94 ∷ brackets)
     by datatype true is iri there = let none = rw is at there in absurd cc
     by datatype false is iri there =
         let some = rw is at there in
-        let other : datatype ≢ xsd_string = λ same. let yes = (bytes_eq-Decides datatype xsd_string).1 same in absurd cc in
+        let other : datatype ≢ xsd_string = λ same. let yes = (same_bytes-Decides datatype xsd_string).1 same in absurd cc in
         subst (λ (k : Kind). IsValidKind k × (suffix_of k ≡ 94 ∷ 94 ∷ brackets)) (same_Some (Typed datatype) kind some) ((iri.0, other), ap (λ (t : List ℕ). 94 ∷ 94 ∷ t) iri.1)
 
 kind_takes : (suffix : List ℕ) (kind : Kind) → kind_of suffix ≡ Some kind → IsValidKind kind × (suffix_of kind ≡ suffix)
@@ -104,7 +105,7 @@ unfolding kind_of
 kind_again Plain h = refl
 kind_again (Lang tag) h = rw (h.0, h.1) refl
 kind_again (Typed datatype) h =
-    let other = false_from_ne_true _ (λ e. h.1 ((bytes_eq-Decides datatype xsd_string).0 e)) in
+    let other = false_from_ne_true _ (λ e. h.1 ((same_bytes-Decides datatype xsd_string).0 e)) in
     rw (iri_again datatype h.0, other) refl
 
 literal_takes : (bytes : List ℕ) (term : Term) → literal_of bytes ≡ Some term → IsValid term × (printed term ≡ bytes)

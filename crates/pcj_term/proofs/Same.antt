@@ -1,63 +1,57 @@
-use Rattle.std.proofs.Common.{◌≡◌, ℕ, Bool, true, false, not, cond, List, [], ◌∷◌, ◌++◌, refl, ap, sym, subst, ◌∙◌, append-nil}
+-- Terms and triples that are the same, and triples that stand once.
+use Rattle.std.proofs.Common.{◌≡◌, Bool, true, false, not, cond, List, [], ◌∷◌, ◌++◌, refl, ap, sym, subst, ◌∙◌, append-nil}
 use Rattle.std.specs.List.{filter, list_any}
-use Rattle.std.specs.Prelude.{◌&&◌, ◌||◌}
-use Rattle.std.specs.Bool.{Decides}
-use Rattle.std.proofs.lemmas.Bool.{and_parts}
+use Rattle.std.specs.Prelude.{◌||◌}
+use Rattle.std.proofs.lemmas.Bool.{and_parts, and_from}
 use Rattle.std.proofs.lemmas.List.Elements.{filter-append}
-use Rattle.std.proofs.lemmas.Slice.Eq.{slice_eq-Decides}
 use Rattle.std.proofs.lemmas.Bool.Decides.{Decides-eqb}
 use Rattle.pcj_term.specs.declared.term.Term.{Term}
 use Rattle.pcj_term.specs.declared.term.Term.TheVariants.{Iri, Blank, Literal}
 use Rattle.pcj_term.specs.declared.triple.Triple.{Triple}
 use Rattle.pcj_term.specs.declared.kind.Kind.{Kind}
 use Rattle.pcj_term.specs.declared.kind.Kind.TheVariants.{Plain, Lang, Typed}
-use Rattle.pcj_term.specs.Triple.{same_bytes, same_kind, same_term, same_triple, distinct}
-
-same_bytes-Decides : (a b : List ℕ) → Decides (same_bytes a b) (a ≡ b)
-same_bytes-Decides a b = slice_eq-Decides Decides-eqb a b (same_bytes a b) refl
-
-pub both_true : {a b : Bool} → a ≡ true → b ≡ true → a && b ≡ true
-both_true p q = rw (p, q) refl
+use Rattle.pcj_term.specs.Triple.{same_kind, same_term, same_triple, distinct}
+use Rattle.pcj_term.proofs.ByteLemmas.{same_bytes_are, same_bytes_itself}
 
 same_kind_true : (k l : Kind) → same_kind k l ≡ true → k ≡ l
 same_kind_true Plain Plain h = refl
 same_kind_true Plain (Lang b) h = cc
 same_kind_true Plain (Typed b) h = cc
 same_kind_true (Lang a) Plain h = cc
-same_kind_true (Lang a) (Lang b) h = ap Lang ((same_bytes-Decides a b).0 h)
+same_kind_true (Lang a) (Lang b) h = ap Lang (same_bytes_are a b h)
 same_kind_true (Lang a) (Typed b) h = cc
 same_kind_true (Typed a) Plain h = cc
 same_kind_true (Typed a) (Lang b) h = cc
-same_kind_true (Typed a) (Typed b) h = ap Typed ((same_bytes-Decides a b).0 h)
+same_kind_true (Typed a) (Typed b) h = ap Typed (same_bytes_are a b h)
 
 same_kind_refl : (k : Kind) → same_kind k k ≡ true
 same_kind_refl Plain = refl
-same_kind_refl (Lang a) = (same_bytes-Decides a a).1 refl
-same_kind_refl (Typed a) = (same_bytes-Decides a a).1 refl
+same_kind_refl (Lang a) = same_bytes_itself a
+same_kind_refl (Typed a) = same_bytes_itself a
 
 pub same_term_true : (s t : Term) → same_term s t ≡ true → s ≡ t
-same_term_true (Iri a) (Iri b) h = ap Iri ((same_bytes-Decides a b).0 h)
+same_term_true (Iri a) (Iri b) h = ap Iri (same_bytes_are a b h)
 same_term_true (Iri a) (Blank m b) h = cc
 same_term_true (Iri a) (Literal b l) h = cc
 same_term_true (Blank n a) (Iri b) h = cc
 same_term_true (Blank n a) (Blank m b) h =
     let parts = and_parts _ _ h in
     let loads : n ≡ m = (Decides-eqb n m).0 parts.0 in
-    let labels : a ≡ b = (same_bytes-Decides a b).0 parts.1 in
+    let labels : a ≡ b = same_bytes_are a b parts.1 in
     cc
 same_term_true (Blank n a) (Literal b l) h = cc
 same_term_true (Literal a k) (Iri b) h = cc
 same_term_true (Literal a k) (Blank m b) h = cc
 same_term_true (Literal a k) (Literal b l) h =
     let parts = and_parts _ _ h in
-    let texts : a ≡ b = (same_bytes-Decides a b).0 parts.0 in
+    let texts : a ≡ b = same_bytes_are a b parts.0 in
     let kinds : k ≡ l = same_kind_true k l parts.1 in
     cc
 
 pub same_term_refl : (t : Term) → same_term t t ≡ true
-same_term_refl (Iri a) = (same_bytes-Decides a a).1 refl
-same_term_refl (Blank n a) = both_true ((Decides-eqb n n).1 refl) ((same_bytes-Decides a a).1 refl)
-same_term_refl (Literal a k) = both_true ((same_bytes-Decides a a).1 refl) (same_kind_refl k)
+same_term_refl (Iri a) = same_bytes_itself a
+same_term_refl (Blank n a) = and_from _ _ ((Decides-eqb n n).1 refl) (same_bytes_itself a)
+same_term_refl (Literal a k) = and_from _ _ (same_bytes_itself a) (same_kind_refl k)
 
 abbrev triple_of : Term → Term → Term → Triple
 triple_of s p o = record { subject = s; predicate = p; object = o }
@@ -72,7 +66,7 @@ same_triple_true a b h =
 
 pub same_triple_refl : (a : Triple) → same_triple a a ≡ true
 same_triple_refl a =
-    both_true (both_true (same_term_refl a.subject) (same_term_refl a.predicate)) (same_term_refl a.object)
+    and_from _ _ (and_from _ _ (same_term_refl a.subject) (same_term_refl a.predicate)) (same_term_refl a.object)
 
 same_triple_flip : (a b : Triple) → same_triple a b ≡ false → same_triple b a ≡ false
 same_triple_flip a b h = by (same_triple b a) refl

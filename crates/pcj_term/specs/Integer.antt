@@ -1,11 +1,12 @@
 -- The value of an xsd:integer (XML Schema Part 2, section 3.3.13), where it is an i64.
 use Rattle.std.specs.Prelude.{ℕ, ℤ, pos, neg_ℤ, Bool, not, ◌&&◌, ◌^◌, List, length, nat_lt, int_lt, Option, Some, None, codes, if◌then◌else◌}
-use Rattle.std.specs.Str.{bytes_eq, all_ascii_digits}
+use Rattle.std.specs.Str.{all_ascii_digits}
 use Rattle.std.specs.Str.Parse.{without_leading_sign, signed_digits_value}
 use Rattle.pcj_term.specs.declared.kind.Kind.{Kind}
 use Rattle.pcj_term.specs.declared.kind.Kind.TheVariants.{Plain, Lang, Typed}
 use Rattle.pcj_term.specs.declared.term.Term.{Term}
 use Rattle.pcj_term.specs.declared.term.Term.TheVariants.{Iri, Blank, Literal}
+use Rattle.pcj_term.specs.Order.{same_bytes}
 
 abbrev pub xsd_integer : List ℕ
 xsd_integer = codes "http://www.w3.org/2001/XMLSchema#integer"
@@ -24,7 +25,7 @@ integer_text text = if is_integer_text text && is_i64 (signed_digits_value 10 te
 abbrev pub integer_literal : List ℕ → Kind → Option ℤ
 integer_literal text Plain = None
 integer_literal text (Lang tag) = None
-integer_literal text (Typed datatype) = if bytes_eq datatype xsd_integer then integer_text text else None
+integer_literal text (Typed datatype) = if same_bytes datatype xsd_integer then integer_text text else None
 
 -- the value of a term that is an xsd:integer
 abbrev pub integer_value : Term → Option ℤ

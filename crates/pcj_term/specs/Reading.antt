@@ -1,7 +1,7 @@
 -- Reading a printed term from left to right.
 use Rattle.std.specs.Prelude.{ℕ, Bool, false, not, ◌&&◌, ◌||◌, ◌^◌, List, [], ◌∷◌, ◌++◌, ◌==◌, nat_lt, length, Option, Some, None, if◌then◌else◌}
 use Rattle.std.specs.Option.{option_map}
-use Rattle.std.specs.Str.{is_utf8, bytes_eq, all_ascii_digits}
+use Rattle.std.specs.Str.{is_utf8, all_ascii_digits}
 use Rattle.std.specs.Str.Parse.{digits_value}
 use Rattle.pcj_term.specs.declared.kind.Kind.{Kind}
 use Rattle.pcj_term.specs.declared.kind.Kind.TheVariants.{Plain, Lang, Typed}
@@ -11,6 +11,7 @@ use Rattle.pcj_term.specs.Iri.{lies_between, is_absolute_iri}
 use Rattle.pcj_term.specs.Label.{is_label}
 use Rattle.pcj_term.specs.Tag.{is_language_tag, is_lower_case}
 use Rattle.pcj_term.specs.Valid.{xsd_string}
+use Rattle.pcj_term.specs.Order.{same_bytes}
 
 infixl 10 ◌>>=◌
 abbrev pub ◌>>=◌ : {A B : Type 0} → Option A → (A → Option B) → Option B
@@ -107,7 +108,7 @@ abbrev pub lang_of : List ℕ → Option Kind
 lang_of tag = if is_language_tag tag && is_lower_case tag then Some (Lang tag) else None
 
 abbrev pub typed_of : List ℕ → Option Kind
-typed_of brackets = iri_of brackets >>= (λ datatype. if bytes_eq datatype xsd_string then None else Some (Typed datatype))
+typed_of brackets = iri_of brackets >>= (λ datatype. if same_bytes datatype xsd_string then None else Some (Typed datatype))
 
 -- the kind that follows a text
 unfoldable pub kind_of : List ℕ → Option Kind

@@ -1,7 +1,6 @@
-ghost use Rattle.std.specs.Prelude.{◌==◌, nat_eq, ◌≡◌, ◌↔◌, ◌≤◌, [], ◌∷◌, ◌++◌, length, slice_get, IsTrue, IsNone, IfOk, OnOk, OnErr};
-ghost use Rattle.std.specs.Cmp.Lexicographic.{pointwise};
+ghost use Rattle.std.specs.Prelude.{◌==◌, ◌≡◌, ◌↔◌, ◌≤◌, [], ◌∷◌, ◌++◌, length, slice_get, IsTrue, IsNone, IfOk, OnOk, OnErr};
 ghost use Rattle.std.specs.Cmp.{partial_order_from_own_ties};
-ghost use Rattle.pcj_term.specs.Order.{bytes_cmp};
+ghost use Rattle.pcj_term.specs.Order.{same_bytes, bytes_cmp};
 ghost use Rattle.std.specs.Ordering.{as_partial_cmp};
 ghost use Rattle.std.specs.Hash as fed;
 ghost use Rattle.std.proofs.Common.{rules};
@@ -124,7 +123,7 @@ impl TryClone for Bytes {
 }
 
 impl PartialEq for Bytes {
-    ghost eq = { pointwise nat_eq };
+    ghost eq = { same_bytes };
 
     ghost laws = { Prim.search (comparing, rules) };
 

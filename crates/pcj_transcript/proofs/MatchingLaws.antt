@@ -6,7 +6,8 @@ use Rattle.std.proofs.lemmas.Slice.Eq.{slice_eq-Decides}
 use Rattle.std.proofs.lemmas.Bool.Decides.{Decides-eqb}
 use Rattle.pcj_term.specs.declared.term.Term.{Term}
 use Rattle.pcj_term.specs.declared.triple.Triple.{Triple}
-use Rattle.pcj_term.specs.Triple.{same_bytes, same_term}
+use Rattle.pcj_term.specs.Triple.{same_term}
+use Rattle.pcj_term.specs.Order.{same_bytes}
 use Rattle.pcj_term.proofs.Same.{same_term_true, same_term_refl}
 use Rattle.pcj_transcript.specs.declared.slot.Slot.{Slot}
 use Rattle.pcj_transcript.specs.declared.slot.Slot.TheVariants.{Variable, Constant}

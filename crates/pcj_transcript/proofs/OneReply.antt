@@ -3,7 +3,7 @@ use Rattle.std.proofs.Common.{◌≡◌, ℕ, ◌+◌, List, [], ◌∷◌, ◌+
 use Rattle.std.specs.Prelude.{IsSome}
 use Rattle.std.specs.Map.{lookup}
 use Rattle.pcj_term.specs.declared.triple.Triple.{Triple}
-use Rattle.pcj_term.specs.Triple.{same_bytes}
+use Rattle.pcj_term.specs.Order.{same_bytes}
 use Rattle.pcj_ntriples.specs.declared.kind.NtKind.{NtKind}
 use Rattle.pcj_ntriples.specs.Document.{Document, number_of}
 use Rattle.pcj_ntriples.proofs.Laws.{says_one_thing, has_one_fault, is_not_both}

@@ -6,9 +6,9 @@ use Rattle.std.proofs.lemmas.List.{take_all, take-map, drop-map, length-map}
 use Rattle.std.proofs.lemmas.Slice.Eq.{slice_eq-Decides}
 use Rattle.std.proofs.lemmas.Bool.Decides.{Decides-eqb}
 use Rattle.pcj_transcript.specs.Name.{variable_word, are_distinct}
-use Rattle.pcj_term.specs.Triple.{same_bytes}
 use Rattle.std.specs.List.{list_any}
 use Rattle.std.specs.Prelude.{◌&&◌}
+use Rattle.pcj_term.specs.Order.{same_bytes}
 use Rattle.pcj_transcript.specs.Query.{framed, before_variables, around_slots}
 
 abbrev pub texts : List (Bor (List ℕ)) → List (List ℕ)

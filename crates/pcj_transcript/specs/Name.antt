@@ -2,7 +2,7 @@
 use Rattle.std.specs.Prelude.{ℕ, Bool, true, false, not, ◌&&◌, List, [], ◌∷◌, ◌==◌}
 use Rattle.std.specs.List.{list_all, list_any, slice_split}
 use Rattle.pcj_term.specs.Iri.{is_letter}
-use Rattle.pcj_term.specs.Triple.{same_bytes}
+use Rattle.pcj_term.specs.Order.{same_bytes}
 
 -- the words of a line, with single spaces between them
 abbrev pub words_of : List ℕ → List (List ℕ)

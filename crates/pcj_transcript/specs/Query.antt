@@ -2,13 +2,12 @@
 use Rattle.std.specs.Prelude.{◌≡◌, ◌↔◌, ℕ, Bool, true, false, not, ◌&&◌, ◌||◌, List, [], ◌∷◌, ◌++◌, map, codes, Option, Some, None}
 use Rattle.std.specs.List.{list_all, join_with_byte, AllZip, Contains}
 use Rattle.std.specs.List.Sorted.{IsStrictlySortedBy}
-use Rattle.pcj_term.specs.Order.{bytes_cmp}
 use Rattle.pcj_term.specs.declared.term.Term.{Term}
 use Rattle.pcj_term.specs.declared.term.Term.TheVariants.{Iri, Blank, Literal}
 use Rattle.pcj_term.specs.declared.triple.Triple.{Triple}
 use Rattle.pcj_term.specs.Iri.{is_iri_text}
 use Rattle.pcj_term.specs.Term.{printed}
-use Rattle.pcj_term.specs.Triple.{same_bytes}
+use Rattle.pcj_term.specs.Order.{bytes_cmp, same_bytes}
 use Rattle.pcj_transcript.specs.Name.{is_variable_name, variable_word, words_of, are_distinct, is_empty_list}
 use Rattle.pcj_transcript.specs.declared.slot.Slot.{Slot}
 use Rattle.pcj_transcript.specs.declared.slot.Slot.TheVariants.{Variable, Constant}

@@ -3,7 +3,7 @@ use Rattle.std.specs.Prelude.{◌≡◌, ◌⊎◌, ℕ, ◌+◌, ◌-◌, ◌^�
 use Rattle.std.specs.List.{flat_map}
 use Rattle.std.specs.Map.{lookup}
 use Rattle.pcj_term.specs.declared.triple.Triple.{Triple}
-use Rattle.pcj_term.specs.Triple.{same_bytes}
+use Rattle.pcj_term.specs.Order.{same_bytes}
 use Rattle.pcj_sound.specs.Triples.{Joins}
 use Rattle.pcj_ntriples.specs.declared.kind.NtKind.{NtKind}
 use Rattle.pcj_ntriples.specs.Document.{Document, DocumentFault, number_of}

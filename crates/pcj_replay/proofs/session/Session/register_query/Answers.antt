@@ -1,7 +1,7 @@
 use Rattle.std.proofs.Common.{◌≡◌, ◌+◌, ℕ, Option, None, IsSome, Ok, rules, refl, subst}
 use Rattle.std.specs.Map.{lookup}
 use Rattle.std.proofs.lemmas.Result.{IfOk-weaker}
-use Rattle.pcj_term.specs.Triple.{same_bytes}
+use Rattle.pcj_term.specs.Order.{same_bytes}
 use Rattle.pcj_io.proofs.Errors.{OnErr-of}
 use Rattle.pcj_load.specs.Drawing.{IsNumber, NoNumber, Draws}
 use Rattle.pcj_replay.proofs.SessionLaws.{drawn_fits, drawn_rests, undrawn_fits, registered_spent, registered_taken, registered_added}
