@@ -2,13 +2,13 @@
 use Rattle.std.specs.Prelude.{◌≡◌, ◌⊎◌, ℕ, ◌+◌, ◌^◌, ◌<◌, ◌≤◌, List, Option, Some, None}
 use Rattle.std.specs.List.{All, IsDistinct}
 use Rattle.pcj_term.specs.declared.triple.Triple.{Triple}
-use Rattle.pcj_term.specs.Triple.{same_triple}
+use Rattle.pcj_term.specs.Triple.{same_triple, Joins}
 use Rattle.pcj_table.specs.Table.{Table, row_at}
 use Rattle.pcj_encode.specs.Name.{IsTriple}
 use Rattle.pcj_mvcc.specs.Reading.{Rows}
 use Rattle.pcj_oracle.specs.declared.block.Block.{Block}
 use Rattle.pcj_oracle.specs.Clock.{IsClock, next_number}
-use Rattle.pcj_sound.specs.Triples.{HasTriples, Joins}
+use Rattle.pcj_sound.specs.Triples.{HasTriples}
 use Rattle.pcj_sound.specs.Fit.{FitTable, AreLoadsBelow}
 use Rattle.pcj_sound.specs.Load.{NoCommittedLocks, Settled}
 

@@ -1,9 +1,10 @@
 -- What a session answers over a table.
 use Rattle.std.specs.Prelude.{◌≡◌, ◌⊎◌, ℕ, ◌+◌, ◌^◌, ◌≤◌, List, [], ◌∷◌, ◌++◌, length, None, IsSome}
 use Rattle.pcj_term.specs.declared.triple.Triple.{Triple}
+use Rattle.pcj_term.specs.Triple.{Joins}
 use Rattle.pcj_table.specs.Table.{Table, row_at}
 use Rattle.pcj_oracle.specs.Clock.{stored_number}
-use Rattle.pcj_sound.specs.Triples.{HasTriples, Joins}
+use Rattle.pcj_sound.specs.Triples.{HasTriples}
 use Rattle.pcj_sound.specs.Fit.{FitTable}
 use Rattle.pcj_sound.specs.Load.{NoCommittedLocks}
 use Rattle.pcj_sound.specs.Laws.{HasClockAlone}

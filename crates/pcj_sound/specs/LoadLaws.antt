@@ -2,7 +2,7 @@
 use Rattle.std.specs.Prelude.{◌≡◌, ℕ, ◌+◌, ◌<◌, ◌≤◌, Bool, true, List, [], ◌++◌, filter, get_or, length, is_none}
 use Rattle.std.specs.List.{All, IsDistinct}
 use Rattle.pcj_term.specs.declared.triple.Triple.{Triple}
-use Rattle.pcj_term.specs.Triple.{same_triple, distinct}
+use Rattle.pcj_term.specs.Triple.{same_triple, distinct, Joins}
 use Rattle.pcj_term.specs.Order.{same_bytes}
 use Rattle.pcj_table.specs.declared.mutated.Mutated.{Mutated}
 use Rattle.pcj_table.specs.declared.mutated.Mutated.TheVariants.{Applied}
@@ -14,7 +14,7 @@ use Rattle.pcj_rowtables.specs.Rows.{triple_key}
 use Rattle.pcj_mvcc.specs.declared.act.Act.{Act}
 use Rattle.pcj_mvcc.specs.Acts.{prewrite_act, commit_act}
 use Rattle.pcj_mvcc.specs.Reading.{Rows, acted, allows, standing}
-use Rattle.pcj_sound.specs.Triples.{HasTriples, Joins}
+use Rattle.pcj_sound.specs.Triples.{HasTriples}
 use Rattle.pcj_sound.specs.Fit.{Fit, AreLoadsBelow}
 use Rattle.pcj_sound.specs.Load.{NoCommittedLocks, Settled, IsLoad, load_keys, write_at, locked_rows, committed_rows}
 use Rattle.pcj_sound.specs.Laws.{IsDrawn}

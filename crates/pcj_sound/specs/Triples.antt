@@ -1,5 +1,5 @@
 -- The triples of a table: those whose row in the order SPO stands.
-use Rattle.std.specs.Prelude.{◌↔◌, ◌⊎◌, List, IsSome}
+use Rattle.std.specs.Prelude.{◌↔◌, List, IsSome}
 use Rattle.std.specs.List.{All, Contains}
 use Rattle.pcj_term.specs.declared.triple.Triple.{Triple}
 use Rattle.pcj_encode.specs.declared.order.Order.TheVariants.{Spo}
@@ -11,7 +11,3 @@ use Rattle.pcj_mvcc.specs.Reading.{Rows, standing}
 pub record HasTriples (rows : Rows) (triples : List Triple) : Type 0 where
   pub valid : All IsTriple triples
   pub each : (triple : Triple) → IsTriple triple → Contains triples triple ↔ IsSome (standing rows (triple_key Spo triple))
-
--- the triples of a load join those that were there
-abbrev pub Joins : List Triple → List Triple → List Triple → Type 0
-Joins old new loaded = (triple : Triple) → Contains new triple ↔ (Contains old triple ⊎ Contains loaded triple)

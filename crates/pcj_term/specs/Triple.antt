@@ -1,4 +1,6 @@
-use Rattle.std.specs.Prelude.{Bool, true, false, not, ◌&&◌, List, [], ◌∷◌, filter, nat_eq}
+-- Terms and triples that are the same, and lists of triples.
+use Rattle.std.specs.Prelude.{◌↔◌, ◌⊎◌, Bool, true, false, not, ◌&&◌, List, [], ◌∷◌, filter, nat_eq}
+use Rattle.std.specs.List.{Contains}
 use Rattle.pcj_term.specs.declared.kind.Kind.{Kind}
 use Rattle.pcj_term.specs.declared.kind.Kind.TheVariants.{Plain, Lang, Typed}
 use Rattle.pcj_term.specs.declared.term.Term.{Term}
@@ -38,3 +40,7 @@ same_triple triple other =
 abbrev pub distinct : List Triple → List Triple
 distinct [] = []
 distinct (triple ∷ triples) = triple ∷ filter (λ other. not (same_triple triple other)) (distinct triples)
+
+-- the triples of a load join those that were there
+abbrev pub Joins : List Triple → List Triple → List Triple → Type 0
+Joins old new loaded = (triple : Triple) → Contains new triple ↔ (Contains old triple ⊎ Contains loaded triple)

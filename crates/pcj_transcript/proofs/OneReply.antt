@@ -4,6 +4,7 @@ use Rattle.std.specs.Prelude.{IsSome}
 use Rattle.std.specs.Map.{lookup}
 use Rattle.pcj_term.specs.declared.triple.Triple.{Triple}
 use Rattle.pcj_term.specs.Order.{same_bytes}
+use Rattle.pcj_term.specs.Triple.{Joins}
 use Rattle.pcj_ntriples.specs.declared.kind.NtKind.{NtKind}
 use Rattle.pcj_ntriples.specs.Document.{Document, number_of}
 use Rattle.pcj_ntriples.proofs.Laws.{says_one_thing, has_one_fault, is_not_both}
@@ -12,7 +13,6 @@ use Rattle.pcj_transcript.specs.declared.command.Command.TheVariants.{Load, Regi
 use Rattle.pcj_transcript.specs.declared.query.Query.{Query}
 use Rattle.pcj_transcript.specs.Query.{AnswerLines}
 use Rattle.pcj_lines.specs.Lines.{loaded_line, committed_line, refused_line, registered_line, taken_line, rows_line}
-use Rattle.pcj_sound.specs.Triples.{Joins}
 use Rattle.pcj_transcript.specs.Transcript.{State, Reply, query_named, Loads, RefusesLoad, Registers, IsTaken, IsAnswered}
 use Rattle.pcj_transcript.proofs.OneQuery.{SameTriples, one_query, one_answer}
 

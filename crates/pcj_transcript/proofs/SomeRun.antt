@@ -3,6 +3,7 @@ use Rattle.std.proofs.Common.{◌≡◌, ◌≢◌, ℕ, ◌+◌, ◌^◌, ◌<�
 use Rattle.std.specs.Prelude.{◌⊎◌, IsSome}
 use Rattle.std.proofs.lemmas.List.Elements.{Contains-append_cases, Contains-append_left, Contains-append_right}
 use Rattle.pcj_term.specs.declared.triple.Triple.{Triple}
+use Rattle.pcj_term.specs.Triple.{Joins}
 use Rattle.pcj_ntriples.specs.Document.{Document, number_of}
 use Rattle.pcj_ntriples.proofs.Laws.{is_either}
 use Rattle.pcj_transcript.specs.declared.command.Command.{Command}
@@ -11,7 +12,6 @@ use Rattle.pcj_transcript.specs.declared.query.Query.{Query}
 use Rattle.pcj_transcript.specs.Query.{QueryText}
 use Rattle.pcj_transcript.specs.Law.{HasTranscript, IsTold}
 use Rattle.pcj_lines.specs.Lines.{loaded_line, committed_line, refused_line, registered_line, taken_line, no_query_line, rows_line, spent_line}
-use Rattle.pcj_sound.specs.Triples.{Joins}
 use Rattle.pcj_transcript.specs.Transcript.{State, start_state, Reply, Spends, Run, query_named, printed, printed_lines}
 use Rattle.pcj_transcript.proofs.Decided.{is_number}
 use Rattle.pcj_transcript.proofs.SomeAnswer.{some_answer}

@@ -4,7 +4,7 @@ use Rattle.std.specs.List.{flat_map}
 use Rattle.std.specs.Map.{lookup}
 use Rattle.pcj_term.specs.declared.triple.Triple.{Triple}
 use Rattle.pcj_term.specs.Order.{same_bytes}
-use Rattle.pcj_sound.specs.Triples.{Joins}
+use Rattle.pcj_term.specs.Triple.{Joins}
 use Rattle.pcj_ntriples.specs.declared.kind.NtKind.{NtKind}
 use Rattle.pcj_ntriples.specs.Document.{Document, DocumentFault, number_of}
 use Rattle.pcj_transcript.specs.declared.command.Command.{Command}
