@@ -6,11 +6,12 @@ use Rattle.std.proofs.lemmas.Bool.{and_parts, or_parts, eq-eqb, not-true, and_fr
 use Rattle.std.proofs.lemmas.List.Folds.{list_all-append}
 use Rattle.std.proofs.lemmas.Str.{encodes-append}
 use Rattle.std.proofs.Math.Seq.{take-append_seam}
+use Rattle.std.proofs.Math.Bool.{or-true}
 use Rattle.pcj_term.specs.Label.{is_label_character}
 use Rattle.pcj_term.specs.Iri.{is_letter, is_digit, is_letter_or_digit}
 use Rattle.pcj_ntriples.specs.Term.{IsLongest}
 use Rattle.pcj_ntriples.specs.LineReading.{name_at, label_at, onto_tag, tag_from, lowered, tag_at, is_tag_character, begins_tag_character, begins_label_character}
-use Rattle.pcj_ntriples.proofs.Names.{ends_dot, IsRun, run_of, longest_same, is_hyphen, hyphen_alone, or_true}
+use Rattle.pcj_ntriples.proofs.Names.{ends_dot, IsRun, run_of, longest_same, is_hyphen, hyphen_alone}
 
 encoded_push : (front : List ℕ) (character : ℕ) → encode_utf8_all front ++ encode_utf8 character ≡ encode_utf8_all (front ++ character ∷ [])
 encoded_push front character = ap (λ (b : List ℕ). encode_utf8_all front ++ b) (sym (append-nil (encode_utf8 character))) ∙ sym (encodes-append front (character ∷ []))
@@ -34,9 +35,6 @@ onto_none : (o : Option (List ℕ × List ℕ)) → onto_all [] o ≡ o
 onto_none None = refl
 onto_none (Some found) = refl
 
-pub tag_start : (tag whole : List ℕ) → tag ≡ [] → TagSoFar tag false false whole whole
-tag_start tag whole none = record { written = []; bytes = none; same = onto_none (tag_from false false whole) }
-
 tag_step : (digits some : Bool) (character : ℕ) (characters : List ℕ) → is_tag_character digits some character ≡ true → tag_from digits some (character ∷ characters) ≡ onto_tag character (tag_from (digits || nat_eq character 45) (not (nat_eq character 45)) characters)
 unfolding tag_from
 tag_step digits some character characters is = by (is_letter character || (digits && is_digit character)) (is_hyphen character) refl refl
@@ -51,7 +49,7 @@ tag_step digits some character characters is = by (is_letter character || (digit
 
     by : (letter hyphen : Bool) → is_letter character || (digits && is_digit character) ≡ letter → is_hyphen character ≡ hyphen → tag_from digits some (character ∷ characters) ≡ onto_tag character (tag_from (digits || nat_eq character 45) (not (nat_eq character 45)) characters)
     by true hyphen p q = rw (p, hyphen_alone character (either (is_letter character) refl p), or_false digits) refl
-    by false true p q = let here = rw (p, q) at is in rw (p, q, here, or_true digits) refl
+    by false true p q = let here = rw (p, q) at is in rw (p, q, here, or-true digits) refl
     by false false p q = let none = rw (p, q) at is in absurd cc
 
 tag_stop : (digits some : Bool) (characters : List ℕ) → begins_tag_character digits some characters ≡ false → tag_from digits some characters ≡ cond some (Some ([], characters)) None
@@ -95,9 +93,6 @@ pub record LabelSoFar (label : List ℕ) (kept : ℕ) (after characters whole : 
   pub all : list_all is_label_character (name ++ dots) ≡ true
   pub dotted : are_dots dots ≡ true
   pub inside : ends_dot name ≡ false
-
-pub label_start : (label : List ℕ) (kept : ℕ) (whole : List ℕ) → label ≡ [] → kept ≡ 0 → LabelSoFar label kept whole whole whole
-label_start label kept whole none zero_kept = record { name = []; dots = []; bytes = none; count = zero_kept; follows = refl; written = refl; all = refl; dotted = refl; inside = refl }
 
 moved_in : (front : List ℕ) (character : ℕ) (rest : List ℕ) → front ++ character ∷ rest ≡ (front ++ character ∷ []) ++ rest
 moved_in front character rest = sym (append_assoc front (character ∷ []) rest)

@@ -9,6 +9,7 @@ use Rattle.std.proofs.lemmas.List.{length-append}
 use Rattle.std.proofs.lemmas.List.Sums.{take_while-cons}
 use Rattle.std.proofs.lemmas.Str.{chars-encodes, is_utf8-from_IsUtf8, len_utf8_bounds, length-encode}
 use Rattle.std.proofs.Math.Seq.{drop-append-add}
+use Rattle.std.proofs.Math.Bool.{and-false, or-true}
 use Rattle.pcj_term.specs.Iri.{is_letter, is_digit, is_letter_or_digit}
 use Rattle.pcj_term.specs.Label.{is_name_start, is_label_start, is_label_character, begins_label, ends_in_a_dot}
 use Rattle.pcj_term.specs.Tag.{is_subtag, is_language_tag}
@@ -42,14 +43,6 @@ abbrev first_fits : Bool → List (List ℕ) → Bool
 first_fits some [] = some
 first_fits some (part ∷ parts) = (some || nat_lt 0 (length part)) && list_all is_letter_or_digit part && list_all is_subtag parts
 
-pub and_false : (v : Bool) → v && false ≡ false
-and_false true = refl
-and_false false = refl
-
-pub or_true : (v : Bool) → v || true ≡ true
-or_true true = refl
-or_true false = refl
-
 nonempty : (part : List ℕ) (character : ℕ) → nat_lt 0 (length (character ∷ part)) ≡ true
 nonempty part character = lt-ltb 0 (length (character ∷ part)) (omega arith)
 
@@ -67,12 +60,12 @@ split_fits (character ∷ characters) = by (is_hyphen character) refl
 
 -- a part with one more character at its front
 part_fits : (some : Bool) (character : ℕ) (parts : List (List ℕ)) → is_letter_or_digit character ≡ true → first_fits some (onto_first character parts) ≡ first_fits true parts
-part_fits some character [] is = rw (is, or_true some) refl
-part_fits some character (part ∷ parts) is = rw (is, nonempty part character, or_true some) refl
+part_fits some character [] is = rw (is, or-true some) refl
+part_fits some character (part ∷ parts) is = rw (is, nonempty part character, or-true some) refl
 
 part_fails : (some : Bool) (character : ℕ) (parts : List (List ℕ)) → is_letter_or_digit character ≡ false → first_fits some (onto_first character parts) ≡ false
-part_fails some character [] is = rw (is, or_true some) refl
-part_fails some character (part ∷ parts) is = rw (is, nonempty part character, or_true some) refl
+part_fails some character [] is = rw (is, or-true some) refl
+part_fails some character (part ∷ parts) is = rw (is, nonempty part character, or-true some) refl
 
 pub hyphen_alone : (character : ℕ) → is_letter_or_digit character ≡ true → is_hyphen character ≡ false
 hyphen_alone character is = by (is_hyphen character) refl
@@ -127,7 +120,7 @@ tag_fits some (character ∷ characters) = by (is_letter character) (is_hyphen c
         rw (begins_letters-cons character characters, p, q)
         (ap (λ (v : Bool). some && v) (rest_fits false characters ∙ split_fits characters) ∙ hyphen_fits some (list_all is_subtag (slice_split is_hyphen characters)) ∙ and_true _)
     by false false p q later =
-        rw (begins_letters-cons character characters, p, q) (sym (and_false (first_fits some (onto_first character (slice_split is_hyphen characters)))))
+        rw (begins_letters-cons character characters, p, q) (sym (and-false (first_fits some (onto_first character (slice_split is_hyphen characters)))))
 
 pub tag_accepts : (tag : List ℕ) → is_language_tag tag ≡ accepts false false tag
 tag_accepts tag = sym (tag_fits false tag ∙ ap (λ (v : Bool). v && begins_letters tag) (split_fits tag))
@@ -188,7 +181,7 @@ tag_outcome digits some (character ∷ characters) = by some (is_letter characte
         let same : x ≡ character = cc in
         let here : accepts digits false (character ∷ front) ≡ true = subst (λ (c : ℕ). accepts digits false (c ∷ front) ≡ true) same h in
         let step = rw p at here in
-        let none : is_hyphen character && false ≡ false = and_false (is_hyphen character) in absurd cc
+        let none : is_hyphen character && false ≡ false = and-false (is_hyphen character) in absurd cc
 
     by : (some letter hyphen : Bool) → is_letter character || (digits && is_digit character) ≡ letter → is_hyphen character ≡ hyphen → IsTagOutcome (accepts digits true) characters (tag_from digits true characters) → IsTagOutcome (accepts true false) characters (tag_from true false characters) → IsTagOutcome (accepts digits some) (character ∷ characters) (tag_from digits some (character ∷ characters))
     by some true hyphen p q later next =
@@ -370,7 +363,7 @@ start_inside character is = by (is_name_start character) refl
   where
     by : (v : Bool) → is_name_start character ≡ v → is_label_character character ≡ true
     by true p = rw p refl
-    by false p = let digit = rw p at is in rw (p, digit, or_true (nat_eq character 45)) refl
+    by false p = let digit = rw p at is in rw (p, digit, or-true (nat_eq character 45)) refl
 
 name_begins : (character : ℕ) (characters name rest : List ℕ) → is_label_start character ≡ true → IsRun (character ∷ characters) name rest → begins_label name ≡ true
 name_begins character characters [] rest start run =

@@ -9,7 +9,6 @@ use Rattle.pcj_ntriples.specs.Text.{closing_of, allows, is_hexadecimal}
 use Rattle.pcj_ntriples.specs.TextReading.{digits_at, escape_at, with_front, text_from, allowed_at, escaped_at, character_at}
 use Rattle.pcj_ntriples.specs.LineReading.{encoded, text_at}
 use Rattle.pcj_ntriples.proofs.Spelling.{goes_on, text_goes_on, escape_taken}
-use Rattle.pcj_ntriples.proofs.Names.{and_false}
 use Rattle.std.proofs.lemmas.List.{length-append}
 use Rattle.pcj_ntriples.specs.declared.fault.Fault.{Fault}
 use Rattle.pcj_ntriples.specs.declared.fault.Fault.TheVariants.{Wrong, Memory}
@@ -30,22 +29,8 @@ pub record TextSoFar (enclosure : Enclosure) (text characters whole : List ℕ) 
   pub bytes : text ≡ encode_utf8_all spelled
   pub same : with_front spelled (text_from enclosure 0 characters) ≡ text_from enclosure 0 whole
 
-pub text_start : (enclosure : Enclosure) (text whole : List ℕ) → text ≡ [] → TextSoFar enclosure text whole whole
-text_start enclosure text whole none = record { spelled = []; bytes = none; same = nothing (text_from enclosure 0 whole) }
-  where
-    nothing : (r : Result (List ℕ × List ℕ) NtKind) → with_front [] r ≡ r
-    nothing (Ok found) = refl
-    nothing (Err kind) = refl
-
 pub digits_start : (digits : ℕ) (whole : List ℕ) → DigitsLeft digits 0 0 whole whole
 digits_start digits whole = record { left = digits; total = omega arith; same = refl; small = omega arith }
-
-pub digits_over : (digits count number : ℕ) (whole : List ℕ) → DigitsLeft digits count number [] whole → count < digits → digits_at digits 0 whole ≡ None
-digits_over digits count number whole d within = by d.left d.total (sym d.same)
-  where
-    by : (left : ℕ) → left + count ≡ digits → digits_at digits 0 whole ≡ digits_at left number [] → digits_at digits 0 whole ≡ None
-    by zero total same = absurd (omega (arith, total, within))
-    by (suc left) total same = same
 
 digits_step : (digits count number c : ℕ) (rest whole : List ℕ) (v : Bool) → DigitsLeft digits count number (c ∷ rest) whole → count < digits → is_hexadecimal c && nat_lt (number * 16 + digit_value c) 0x110000 ≡ v → (left : ℕ) × (suc left + count ≡ digits) × (cond v (digits_at left (number * 16 + digit_value c) rest) None ≡ digits_at digits 0 whole)
 digits_step digits count number c rest whole v d within is = by d.left d.total d.same
@@ -59,24 +44,12 @@ digits_wrong digits count number c rest whole d within large =
     let none = le-ltb (digit_value c) 16 large in
     let step = digits_step digits count number c rest whole false d within (rw none refl) in sym step.2
 
-pub digits_large : (digits count number c : ℕ) (rest whole : List ℕ) → DigitsLeft digits count number (c ∷ rest) whole → count < digits → 0x10FFFF < number * 16 + digit_value c → digits_at digits 0 whole ≡ None
-digits_large digits count number c rest whole d within large =
-    let none = le-ltb (number * 16 + digit_value c) 0x110000 (omega (arith, large)) in
-    let step = digits_step digits count number c rest whole false d within (rw none (and_false (is_hexadecimal c))) in sym step.2
-
 pub digits_next : (digits count number c : ℕ) (rest whole : List ℕ) → DigitsLeft digits count number (c ∷ rest) whole → count < digits → digit_value c < 16 → number * 16 + digit_value c ≤ 0x10FFFF → DigitsLeft digits (count + 1) (number * 16 + digit_value c) rest whole
 digits_next digits count number c rest whole d within hex small =
     let is = lt-ltb (digit_value c) 16 hex in
     let low = lt-ltb (number * 16 + digit_value c) 0x110000 (omega (arith, small)) in
     let step = digits_step digits count number c rest whole true d within (rw (is, low) refl) in
     record { left = step.0; total = let total = step.1 in omega (arith, total); same = step.2; small = omega (arith, small) }
-
-pub digits_done : (digits count number : ℕ) (characters whole : List ℕ) → DigitsLeft digits count number characters whole → digits ≤ count → Some (number, characters) ≡ digits_at digits 0 whole
-digits_done digits count number characters whole d done = by d.left d.total d.same
-  where
-    by : (left : ℕ) → left + count ≡ digits → digits_at left number characters ≡ digits_at digits 0 whole → Some (number, characters) ≡ digits_at digits 0 whole
-    by zero total same = same
-    by (suc left) total same = absurd (omega (arith, total, done))
 
 -- ---- a text goes on
 

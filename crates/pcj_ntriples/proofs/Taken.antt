@@ -5,6 +5,7 @@ use Rattle.std.specs.Str.{all_scalars}
 use Rattle.std.proofs.lemmas.Bool.{and_parts, or_parts, eqb-true, ltb-true, ltb-false, lt-ltb, le-ltb, false_from_ne_true, and_from}
 use Rattle.std.proofs.lemmas.List.{length-append}
 use Rattle.std.proofs.lemmas.Str.{encodes-append}
+use Rattle.std.proofs.Math.Bool.{and-false}
 use Rattle.pcj_term.specs.declared.kind.Kind.{Kind}
 use Rattle.pcj_term.specs.declared.kind.Kind.TheVariants.{Plain, Lang, Typed}
 use Rattle.pcj_term.specs.declared.term.Term.{Term}
@@ -299,10 +300,6 @@ no_node [] = refl
 no_node (second ∷ []) = refl
 no_node (second ∷ third ∷ inner) = refl
 
-and_false : (v : Bool) → v && false ≡ false
-and_false true = refl
-and_false false = refl
-
 iri_term_at : (load : ℕ) (place : Place) (inner : List ℕ) → any_term_at load place (60 ∷ inner) ≡ iri_at inner >>= (λ found. Ok (Iri found.0, found.1))
 unfolding any_term_at
 iri_term_at load place inner = refl
@@ -313,7 +310,7 @@ node_term_at load place inner allowed begins = rw (allowed, node_begins inner, b
 
 literal_term_at : (load : ℕ) (place : Place) (inner : List ℕ) → takes_literals place ≡ true → any_term_at load place (34 ∷ inner) ≡ literal_at inner
 unfolding any_term_at
-literal_term_at load place inner allowed = rw (no_node inner, and_false (takes_nodes place), allowed) refl
+literal_term_at load place inner allowed = rw (no_node inner, and-false (takes_nodes place), allowed) refl
 
 literal_from : (inner text after : List ℕ) → Closes enclosures.String inner text after → literal_at inner ≡ literal_of text (kind_at after (skip_blanks after))
 unfolding literal_at

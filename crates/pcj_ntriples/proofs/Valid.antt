@@ -9,6 +9,7 @@ use Rattle.std.proofs.lemmas.List.Folds.{list_all-append}
 use Rattle.std.proofs.lemmas.Option.{same_Some}
 use Rattle.std.proofs.lemmas.Str.{encodes-IsAscii, scalars-chars, IsUtf8-from_is_utf8}
 use Rattle.std.proofs.lemmas.Str.Ascii.{IsAscii-nil, IsAscii-cons, lowercase_is}
+use Rattle.std.proofs.Math.Bool.{and-false, or-true}
 use Rattle.pcj_term.specs.declared.kind.Kind.{Kind}
 use Rattle.pcj_term.specs.declared.kind.Kind.TheVariants.{Plain, Lang, Typed}
 use Rattle.pcj_term.specs.declared.term.Term.{Term}
@@ -28,7 +29,7 @@ use Rattle.pcj_ntriples.specs.Term.{TakesIri, TakesTag, TakesDatatype, TakesKind
 use Rattle.pcj_ntriples.specs.Line.{BeforeDot, Good}
 use Rattle.pcj_ntriples.specs.Document.{Say}
 use Rattle.pcj_ntriples.specs.Valid.{IsSubject, IsPredicate, CarriesLoad, IsTripleOf, HasValidTriples}
-use Rattle.pcj_ntriples.proofs.Names.{is_hyphen, accepts, and_false, or_true, tag_accepts, utf8_encoded, scalars_parts}
+use Rattle.pcj_ntriples.proofs.Names.{is_hyphen, accepts, tag_accepts, utf8_encoded, scalars_parts}
 use Rattle.pcj_ntriples.proofs.Taken.{ends_scalars, first_ends, skips_ends, closes_ends, before_datatype_ends}
 use Rattle.pcj_ntriples.proofs.Says.{before_predicate_ends, before_object_ends}
 
@@ -128,10 +129,10 @@ IsLow character = (is_capital character ≡ false) × (character < 128)
 
 low_by : (character : ℕ) → (character < 65) ⊎ (90 < character) → character < 128 → IsLow character
 low_by character (inl below) small = (rw (lt-leb 65 character below) refl, small)
-low_by character (inr above) small = (rw (lt-leb character 90 above) (and_false (nat_le 65 character)), small)
+low_by character (inr above) small = (rw (lt-leb character 90 above) (and-false (nat_le 65 character)), small)
 
 small_letter : (character : ℕ) → 97 ≤ character → character ≤ 122 → is_letter character ≡ true
-small_letter character low high = rw (le-leb 97 character low, le-leb character 122 high) (or_true (is_capital character))
+small_letter character low high = rw (le-leb 97 character low, le-leb character 122 high) (or-true (is_capital character))
 
 letter_lowered : (character : ℕ) → is_letter character ≡ true → (is_letter (to_ascii_lowercase character) ≡ true) × IsLow (to_ascii_lowercase character)
 letter_lowered character is = by (is_capital character) refl
