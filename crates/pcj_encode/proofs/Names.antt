@@ -6,7 +6,7 @@ use Rattle.std.proofs.lemmas.Option.{same_Some}
 use Rattle.std.proofs.lemmas.List.{length-append}
 use Rattle.std.proofs.Math.Seq.{take-append_seam, get_or-append_seam}
 use Rattle.pcj_term.specs.declared.triple.Triple.{Triple}
-use Rattle.pcj_term.proofs.Parts.{bind_some}
+use Rattle.pcj_term.proofs.OptionLemmas.{bind_some, map_some}
 use Rattle.pcj_key.specs.Key as parts
 use Rattle.pcj_key.proofs.Keys.{injective}
 use Rattle.pcj_key.proofs.Ordered.{ordered}
@@ -28,7 +28,7 @@ use Rattle.pcj_encode.specs.Reading.{is_cell, registration_first, numbers_first,
 use Rattle.pcj_encode.proofs.Numbers.{registration_again}
 use Rattle.pcj_encode.proofs.Cells.{cells_take, cells_again, cells_split, cells_joined}
 use Rattle.pcj_encode.proofs.Tags.{tag_takes, tag_again, task_tag_takes}
-use Rattle.pcj_encode.proofs.Several.{map_some, registration_first_takes, numbers_first_takes, registered_cells_take, node_cells_take, numbers_again, registered_cells_again, node_cells_again, triple_takes, spo_again, pos_again, osp_again}
+use Rattle.pcj_encode.proofs.Several.{registration_first_takes, numbers_first_takes, registered_cells_take, node_cells_take, numbers_again, registered_cells_again, node_cells_again, triple_takes, spo_again, pos_again, osp_again}
 
 -- ---- what is read
 

@@ -5,7 +5,7 @@ use Rattle.std.specs.Option.{option_map}
 use Rattle.std.proofs.lemmas.List.{length-append}
 use Rattle.std.proofs.lemmas.Option.{same_Some, cond_some}
 use Rattle.pcj_term.specs.Reading.{◌>>=◌}
-use Rattle.pcj_term.proofs.Parts.{bind_some}
+use Rattle.pcj_term.proofs.OptionLemmas.{bind_some, map_some}
 use Rattle.pcj_key.specs.Key as parts
 use Rattle.pcj_key.specs.Key.{byte_key}
 use Rattle.pcj_key.specs.Order.{BeginsWith}
@@ -17,7 +17,6 @@ use Rattle.pcj_encode.specs.Name.{registration_part, node_part, parts_of}
 use Rattle.pcj_encode.specs.Range.{RangeKind, nodes, exports, patterns, tasks, registrations, triples, groups, IsOfKind, front_of, IsNumbered, RangesHoldNames, RangesHoldBytes}
 use Rattle.pcj_encode.specs.Reading.{cells_of, registration_first, numbers_first, triple_of, group_with, task_of, name_of}
 use Rattle.pcj_encode.proofs.Numbers.{registration_again, node_again}
-use Rattle.pcj_encode.proofs.Several.{map_some}
 use Rattle.pcj_encode.proofs.Names.{name_again, alone_takes}
 
 -- the parts of a name of the kind begin as the kind's do

@@ -1,15 +1,15 @@
 -- What is read from several parts is what is written as these parts, and what is written is read again.
-use Rattle.std.proofs.Common.{◌≡◌, ℕ, true, Option, Some, None, List, [], ◌∷◌, refl, ap, sym, subst, ◌∙◌}
+use Rattle.std.proofs.Common.{◌≡◌, ℕ, true, Some, List, [], ◌∷◌, refl, ap, sym, subst, ◌∙◌}
 use Rattle.std.specs.List.{list_all}
 use Rattle.std.specs.Option.{option_map}
-use Rattle.std.proofs.lemmas.Option.{cond_some, same_Some}
+use Rattle.std.proofs.lemmas.Option.{cond_some}
 use Rattle.pcj_term.specs.declared.term.Term.{Term}
 use Rattle.pcj_term.specs.declared.triple.Triple.{Triple}
 use Rattle.pcj_term.specs.Term.{printed}
 use Rattle.pcj_term.specs.Valid.{IsValid}
 use Rattle.pcj_term.specs.Reading.{term_of}
-use Rattle.pcj_term.proofs.Parts.{bind_some}
 use Rattle.pcj_term.proofs.Reading.{term_again}
+use Rattle.pcj_term.proofs.OptionLemmas.{map_some, bind_some}
 use Rattle.pcj_encode.specs.declared.order.Order.{Order}
 use Rattle.pcj_encode.specs.declared.order.Order.TheVariants.{Spo, Pos, Osp}
 use Rattle.pcj_encode.specs.Name.{registration_part, node_part, triple_parts, IsRegistration, IsNode, IsTriple}
@@ -17,10 +17,6 @@ use Rattle.pcj_encode.specs.Tag.{letter_of, order_kind}
 use Rattle.pcj_encode.specs.Reading.{is_cell, cells_of, registration_of, node_of, registration_first, node_first, numbers_first, registered_cells, node_cells, terms_of, triple_of, in_order}
 use Rattle.pcj_encode.proofs.Numbers.{registration_takes, registration_again, node_takes, node_again}
 use Rattle.pcj_encode.proofs.Cells.{term_takes}
-
-pub map_some : {A B : Type 0} (f : A → B) (o : Option A) (y : B) → option_map f o ≡ Some y → (x : A) × (o ≡ Some x) × (f x ≡ y)
-map_some f None y e = absurd cc
-map_some f (Some x) y e = (x, refl, same_Some (f x) y e)
 
 abbrev Numbered : Type 0
 Numbered = ℕ × List (List ℕ)

@@ -17,7 +17,7 @@ use Rattle.pcj_encode.specs.Range.{range_of}
 use Rattle.pcj_encode.proofs.Names.{reads_back}
 use Rattle.pcj_rowtables.specs.Rows.{triple_key}
 use Rattle.pcj_sound.specs.Walk.{walked_keys}
-use Rattle.pcj_sound.proofs.Lists.{nothing_in, first_or_later, first_there, later_there}
+use Rattle.pcj_term.proofs.ListLemmas.{nothing_in, first_or_later, first_there, later_there}
 use Rattle.pcj_sound.proofs.Keys.{one_row}
 use Rattle.pcj_sound.proofs.Entries.{walks_go_on, walks_end, walks_meet_triples}
 use Rattle.pcj_load.specs.Walking.{IsWalked, AddsNamed, TellsTriples}

@@ -11,10 +11,11 @@ use Rattle.pcj_table.specs.declared.row.Row.{Row}
 use Rattle.pcj_table.specs.Table.{Key, is_before, found, first_row, rows_that}
 use Rattle.pcj_memtable.specs.Entries.{entries_of, keys_rise, table_of}
 use Rattle.pcj_term.specs.Order.{bytes_cmp}
+use Rattle.pcj_term.proofs.ByteLemmas.{above_is, less_is, bytes_cmp_itself}
+use Rattle.pcj_term.proofs.BoolLemmas.{true_from_T}
 use Rattle.pcj_memtable.specs.Place.{IsRowAt, IsGapAt}
-use Rattle.pcj_memtable.proofs.Places.{back, less_is}
-use Rattle.pcj_memtable.proofs.Edits.{itself, equals}
-use Rattle.pcj_memtable.proofs.Tables.{is_true, entries_are}
+use Rattle.pcj_memtable.proofs.Edits.{equals}
+use Rattle.pcj_memtable.proofs.Tables.{entries_are}
 
 -- rows above a low key are above and from any key at or below it, and none is below it
 above_low : (key low : Key) (rows : List Found) → bytes_cmp key low ≡ Less → below_all bytes_cmp low (entries_of rows) ≡ true → below_all bytes_cmp key (entries_of rows) ≡ true
@@ -30,11 +31,11 @@ all_above key (row ∷ rows) all = rw (less_is (bytes_cmp key row.key) (and_part
 all_from : (key : Key) (rows : List Found) → below_all bytes_cmp key (entries_of rows) ≡ true → filter (λ row. not (is_before row.key key)) rows ≡ rows
 all_from key [] all = refl
 all_from key (row ∷ rows) all =
-    rw (back key row.key (less_is _ (and_parts _ _ all).0)) (ap (λ rs. row ∷ rs) (all_from key rows (and_parts _ _ all).1))
+    rw (above_is key row.key (less_is _ (and_parts _ _ all).0)) (ap (λ rs. row ∷ rs) (all_from key rows (and_parts _ _ all).1))
 
 none_below : (key : Key) (rows : List Found) → below_all bytes_cmp key (entries_of rows) ≡ true → filter (λ row. is_before row.key key) rows ≡ []
 none_below key [] all = refl
-none_below key (row ∷ rows) all = rw (back key row.key (less_is _ (and_parts _ _ all).0)) (none_below key rows (and_parts _ _ all).1)
+none_below key (row ∷ rows) all = rw (above_is key row.key (less_is _ (and_parts _ _ all).0)) (none_below key rows (and_parts _ _ all).1)
 
 -- ---- a place splits the rows
 
@@ -42,18 +43,18 @@ pub above_row : (key : Key) (rows : List Found) (at : ℕ) → keys_rise rows �
 above_row key [] at sorted is = absurd is
 above_row key (row ∷ rows) zero sorted is =
     rw (equals key row.key is) (sym (all_above key rows (subst (λ k. below_all bytes_cmp k (entries_of rows) ≡ true) is (and_parts _ _ sorted).0)))
-above_row key (row ∷ rows) (suc at) sorted is = rw (back row.key key is.0) (above_row key rows at (and_parts _ _ sorted).1 is.1)
+above_row key (row ∷ rows) (suc at) sorted is = rw (above_is row.key key is.0) (above_row key rows at (and_parts _ _ sorted).1 is.1)
 
 pub above_gap : (key : Key) (rows : List Found) (at : ℕ) → keys_rise rows ≡ true → IsGapAt key rows at → drop at rows ≡ filter (λ row. is_before key row.key) rows
 above_gap key [] zero sorted is = refl
 above_gap key [] (suc at) sorted is = absurd (omega arith)
 above_gap key (row ∷ rows) zero sorted is = rw is (ap (λ rs. row ∷ rs) (sym (all_above key rows (above_low key row.key rows is (and_parts _ _ sorted).0))))
-above_gap key (row ∷ rows) (suc at) sorted is = rw (back row.key key is.0) (above_gap key rows at (and_parts _ _ sorted).1 is.1)
+above_gap key (row ∷ rows) (suc at) sorted is = rw (above_is row.key key is.0) (above_gap key rows at (and_parts _ _ sorted).1 is.1)
 
 pub from_row : (key : Key) (rows : List Found) (at : ℕ) → keys_rise rows ≡ true → IsRowAt key rows at → drop at rows ≡ filter (λ row. not (is_before row.key key)) rows
 from_row key [] at sorted is = absurd is
 from_row key (row ∷ rows) zero sorted is =
-    let itself_equal = subst (λ k. bytes_cmp row.key k ≡ Equal) is (itself row.key) in
+    let itself_equal = subst (λ k. bytes_cmp row.key k ≡ Equal) is (bytes_cmp_itself row.key) in
     rw itself_equal (ap (λ rs. row ∷ rs) (sym (all_from key rows (subst (λ k. below_all bytes_cmp k (entries_of rows) ≡ true) is (and_parts _ _ sorted).0))))
 from_row key (row ∷ rows) (suc at) sorted is = rw is.0 (from_row key rows at (and_parts _ _ sorted).1 is.1)
 
@@ -61,20 +62,20 @@ pub from_gap : (key : Key) (rows : List Found) (at : ℕ) → keys_rise rows ≡
 from_gap key [] zero sorted is = refl
 from_gap key [] (suc at) sorted is = absurd (omega arith)
 from_gap key (row ∷ rows) zero sorted is =
-    rw (back key row.key is) (ap (λ rs. row ∷ rs) (sym (all_from key rows (above_low key row.key rows is (and_parts _ _ sorted).0))))
+    rw (above_is key row.key is) (ap (λ rs. row ∷ rs) (sym (all_from key rows (above_low key row.key rows is (and_parts _ _ sorted).0))))
 from_gap key (row ∷ rows) (suc at) sorted is = rw is.0 (from_gap key rows at (and_parts _ _ sorted).1 is.1)
 
 pub below_row : (key : Key) (rows : List Found) (at : ℕ) → keys_rise rows ≡ true → IsRowAt key rows at → take at rows ≡ filter (λ row. is_before row.key key) rows
 below_row key [] at sorted is = absurd is
 below_row key (row ∷ rows) zero sorted is =
-    let itself_equal = subst (λ k. bytes_cmp row.key k ≡ Equal) is (itself row.key) in
+    let itself_equal = subst (λ k. bytes_cmp row.key k ≡ Equal) is (bytes_cmp_itself row.key) in
     rw itself_equal (sym (none_below key rows (subst (λ k. below_all bytes_cmp k (entries_of rows) ≡ true) is (and_parts _ _ sorted).0)))
 below_row key (row ∷ rows) (suc at) sorted is = rw is.0 (ap (λ rs. row ∷ rs) (below_row key rows at (and_parts _ _ sorted).1 is.1))
 
 pub below_gap : (key : Key) (rows : List Found) (at : ℕ) → keys_rise rows ≡ true → IsGapAt key rows at → take at rows ≡ filter (λ row. is_before row.key key) rows
 below_gap key [] zero sorted is = refl
 below_gap key [] (suc at) sorted is = absurd (omega arith)
-below_gap key (row ∷ rows) zero sorted is = rw (back key row.key is) (sym (none_below key rows (above_low key row.key rows is (and_parts _ _ sorted).0)))
+below_gap key (row ∷ rows) zero sorted is = rw (above_is key row.key is) (sym (none_below key rows (above_low key row.key rows is (and_parts _ _ sorted).0)))
 below_gap key (row ∷ rows) (suc at) sorted is = rw is.0 (ap (λ rs. row ∷ rs) (below_gap key rows at (and_parts _ _ sorted).1 is.1))
 
 -- ---- what passes a test among entries
@@ -115,7 +116,7 @@ count_among p q (row ∷ rows) = by (p row.key) (q row.row) refl refl (count_amo
 
 pub rises_where : (p : Key → Bool) (rows : List Found) → keys_rise rows ≡ true → keys_rise (filter (λ row. p row.key) rows) ≡ true
 rises_where p rows sorted =
-    is_true _ (subst (λ es. T (finmap.is_sorted bytes_cmp es)) (sym (filter_entries p rows)) (is_sorted-where_key bytes_cmp p (entries_of rows) (subst T (sym sorted) tt)))
+    true_from_T _ (subst (λ es. T (finmap.is_sorted bytes_cmp es)) (sym (filter_entries p rows)) (is_sorted-where_key bytes_cmp p (entries_of rows) (subst T (sym sorted) tt)))
 
 -- what is below an end among what is above a start lies between them
 pub between : (p q : Key → Bool) (rows : List Found) → filter (λ row. q row.key) (filter (λ row. p row.key) rows) ≡ filter (λ row. p row.key && q row.key) rows

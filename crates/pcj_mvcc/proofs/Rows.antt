@@ -1,5 +1,5 @@
 -- Rows with another one at a key, and rows of a table.
-use Rattle.std.proofs.Common.{◌≡◌, Bool, true, false, cond, not, ◌&&◌, is_some, List, [], ◌∷◌, Option, Some, None, refl, ap, sym, subst, ◌∙◌}
+use Rattle.std.proofs.Common.{◌≡◌, Bool, true, false, cond, Some, None, refl, ap, sym, subst, ◌∙◌}
 use Rattle.std.specs.Option.{unwrap_or}
 use Rattle.std.specs.FinMap as finmap
 use Rattle.std.specs.FinMap.{get-insert, get-remove}
@@ -7,11 +7,9 @@ use Rattle.std.proofs.lemmas.Cmp.{nat_list_cmp_total}
 use Rattle.pcj_term.specs.Order.{same_bytes}
 use Rattle.pcj_term.proofs.ByteLemmas.{same_bytes_are, same_bytes_itself, is_eq-bytes_cmp}
 use Rattle.pcj_table.specs.declared.row.Row.{Row}
-use Rattle.pcj_table.specs.declared.lock.Lock.{Lock}
-use Rattle.pcj_table.specs.declared.version.Version.{Version}
-use Rattle.pcj_table.specs.declared.plain.Plain.{Plain}
-use Rattle.pcj_table.specs.Row.{no_row, has_nothing, is_empty}
+use Rattle.pcj_table.specs.Row.{no_row, has_nothing}
 use Rattle.pcj_table.specs.Table.{Key, Table, row_at, with_row}
+use Rattle.pcj_table.proofs.RowLemmas.{no_row_is}
 use Rattle.pcj_mvcc.specs.Reading.{Rows, put}
 
 -- ---- rows with another one at a key
@@ -31,19 +29,6 @@ put_each P rows key row here there other = by (same_bytes other key) refl
     by false e = there other e
 
 -- ---- rows of a table
-
-no_parts : (lock : Option Lock) (versions : List Version) (plain : Option Plain) → (not (is_some lock) && is_empty versions && not (is_some plain)) ≡ true →
-    (lock ≡ None) × (versions ≡ []) × (plain ≡ None)
-no_parts None [] None none = (refl, refl, refl)
-no_parts None [] (Some plain) none = absurd cc
-no_parts None (version ∷ versions) plain none = absurd cc
-no_parts (Some lock) versions plain none = absurd cc
-
-no_row_is : (row : Row) → has_nothing row ≡ true → row ≡ no_row
-no_row_is row none =
-    let parts = no_parts row.lock row.versions row.plain none in
-    let row_of : Option Lock → List Version → Option Plain → Row = λ lock versions plain. record { lock = lock; versions = versions; plain = plain } in
-    ap (λ lock. row_of lock row.versions row.plain) parts.0 ∙ ap (λ versions. row_of None versions row.plain) parts.1 ∙ ap (row_of None []) parts.2
 
 pub with_row_puts : (table : Table) (key : Key) (row : Row) (other : Key) → row_at (with_row table key row) other ≡ put (row_at table) key row other
 unfolding with_row

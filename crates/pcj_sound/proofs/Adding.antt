@@ -11,7 +11,7 @@ use Rattle.pcj_encode.specs.Name.{IsTriple}
 use Rattle.pcj_rowtables.specs.Rows.{triple_key}
 use Rattle.pcj_sound.specs.Fit.{AreLoadsBelow}
 use Rattle.pcj_sound.specs.LoadLaws.{is_absent, AbsentAreAdded, AddedJoin, DistinctAreOnce}
-use Rattle.pcj_sound.proofs.Lists.{all_by_recursion}
+use Rattle.pcj_term.proofs.ListLemmas.{all_by_recursion}
 use Rattle.pcj_sound.proofs.Filtered.{there_before, passes_there, there_filtered, once_filtered}
 use Rattle.pcj_sound.proofs.Told.{reads_tell}
 

@@ -24,7 +24,7 @@ use Rattle.pcj_mvcc.proofs.Laws.{read_committed, acts_on_one_row}
 use Rattle.pcj_sound.specs.Triples.{HasTriples}
 use Rattle.pcj_sound.specs.Load.{IsLoad, is_one_of, load_keys, load_lock, load_version, committed_rows, with_locks, write_at}
 use Rattle.pcj_sound.specs.LoadLaws.{StepsAreTaken, ClockStays, CommitsBegin, NothingStays, CommitsGoOn, IsCommitted, CommitsAddTriples, LoadsEnd}
-use Rattle.pcj_sound.proofs.Lists.{passed_by_first, passed_by_head}
+use Rattle.pcj_term.proofs.ListLemmas.{passed_by_first, passed_by_head}
 use Rattle.pcj_sound.proofs.Keys.{clock_is_none, load_key_of, not_yet, known}
 use Rattle.pcj_sound.proofs.Held.{unlocked_stands}
 use Rattle.pcj_sound.proofs.Drawn.{key_grows}

@@ -5,7 +5,7 @@ use Rattle.std.proofs.lemmas.List.Elements.{All-weaker}
 use Rattle.pcj_term.specs.declared.term.Term.{Term}
 use Rattle.pcj_term.specs.declared.term.Term.TheVariants.{Iri, Blank, Literal}
 use Rattle.pcj_term.specs.declared.triple.Triple.{Triple}
-use Rattle.pcj_term.proofs.ByteLemmas.{other_bytes}
+use Rattle.pcj_term.proofs.ByteLemmas.{other_bytes, bytes_cases}
 use Rattle.pcj_table.specs.declared.lock.Lock.{Lock}
 use Rattle.pcj_table.specs.declared.version.Version.{Version}
 use Rattle.pcj_table.specs.declared.row.Row.{Row}
@@ -22,7 +22,7 @@ use Rattle.pcj_mvcc.proofs.Laws.{changes_one_row}
 use Rattle.pcj_sound.specs.Fit.{Fit, Decodes, IsDecoded, IsPutBelow, IsLockBelow, IsTripleRow, IsTripleKey, IsLoadBelow, AreLoadsBelow, HasVersion, HasLock, IsClockRow}
 use Rattle.pcj_sound.specs.Triples.{HasTriples}
 use Rattle.pcj_sound.specs.Laws.{FitBelowClock, ClockIsFit, IsDrawn, DrawsAreDrawn, DrawsKeepReadings, DrawsKeepFit, DrawsKeepSettled, FitGrows, SettledGrows}
-use Rattle.pcj_sound.proofs.Held.{key_cases, clock_row}
+use Rattle.pcj_sound.proofs.Held.{clock_row}
 
 -- ---- a higher number
 
@@ -138,11 +138,11 @@ clock_is_fit next rows fit = clock_row next rows fit.decodes
 
 pub drawn_alike : (old new : Rows) → IsClockRow (old clock_key) → IsDrawn old new → IsAlike old new
 drawn_alike old new clock drawn = record {
-  locks = λ key. elim (key_cases key clock_key) [
+  locks = λ key. elim (bytes_cases key clock_key) [
     | inl here ↦ subst (λ k. (new k).lock ≡ (old k).lock) (sym here) (drawn.clock.lock ∙ sym clock.lock)
     | inr other ↦ ap (λ (r : Row). r.lock) (drawn.others key other)
   ];
-  versions = λ key. elim (key_cases key clock_key) [
+  versions = λ key. elim (bytes_cases key clock_key) [
     | inl here ↦ subst (λ k. (new k).versions ≡ (old k).versions) (sym here) (drawn.clock.versions ∙ sym clock.versions)
     | inr other ↦ ap (λ (r : Row). r.versions) (drawn.others key other)
   ];
@@ -154,7 +154,7 @@ draws_keep_readings old new clock drawn =
     record { locks = alike.locks; versions = alike.versions; read = reads_alike old new alike; stands = stands_alike old new alike }
 
 drawn_decodes : (next : ℕ) (old new : Rows) → Decodes next old → IsDrawn old new → Decodes next new
-drawn_decodes next old new decodes drawn key some = elim (key_cases key clock_key) [
+drawn_decodes next old new decodes drawn key some = elim (bytes_cases key clock_key) [
   | inl here ↦ inl (here, subst (λ k. IsClockRow (new k)) (sym here) drawn.clock)
   | inr other ↦ subst (IsDecoded next key) (sym (drawn.others key other)) (decodes key (ap has_nothing (sym (drawn.others key other)) ∙ some))
 ]

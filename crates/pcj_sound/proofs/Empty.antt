@@ -15,11 +15,12 @@ use Rattle.pcj_mvcc.specs.Reading.{Rows, Put, standing, put_of}
 use Rattle.pcj_mvcc.specs.Times.{ascends, starts_first}
 use Rattle.pcj_sound.specs.Fit.{Decodes, HasVersion, HasLock, IsClockRow}
 use Rattle.pcj_sound.specs.Laws.{EmptyIsSettled, HasClockAlone}
-use Rattle.pcj_sound.proofs.Lists.{nothing_in}
-use Rattle.pcj_sound.proofs.Held.{key_cases, unlocked_stands}
+use Rattle.pcj_term.proofs.ListLemmas.{nothing_in}
+use Rattle.pcj_term.proofs.ByteLemmas.{bytes_cases}
+use Rattle.pcj_sound.proofs.Held.{unlocked_stands}
 
 alone : (P : Row → Type 0) (rows : Rows) → HasClockAlone rows → P (rows clock_key) → P no_row → (key : Key) → P (rows key)
-alone P rows empty clock none key = elim (key_cases key clock_key) [
+alone P rows empty clock none key = elim (bytes_cases key clock_key) [
   | inl here ↦ subst (λ k. P (rows k)) (sym here) clock
   | inr other ↦ subst P (sym (empty.others key other)) none
 ]
@@ -58,7 +59,7 @@ empty_is_settled next rows empty = record {
     versions = alone (λ row. row.versions ≡ []) rows empty empty.clock.versions refl
 
     decodes : Decodes next rows
-    decodes key some = elim (key_cases key clock_key) [
+    decodes key some = elim (bytes_cases key clock_key) [
       | inl here ↦ inl (here, subst (λ k. IsClockRow (rows k)) (sym here) empty.clock)
       | inr other ↦ absurd (let same : true ≡ false = ap has_nothing (sym (empty.others key other)) ∙ some in cc)
     ]

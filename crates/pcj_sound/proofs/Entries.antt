@@ -14,7 +14,9 @@ use Rattle.std.specs.FinMap.Entries.{below_all, is_sorted}
 use Rattle.std.proofs.lemmas.Cmp.{nat_list_cmp_total}
 use Rattle.std.proofs.lemmas.Bool.{and_parts, and_left, cond-true, cond-false}
 use Rattle.pcj_term.specs.declared.triple.Triple.{Triple}
-use Rattle.pcj_term.proofs.ByteLemmas.{same_bytes_are}
+use Rattle.pcj_term.specs.Order.{bytes_cmp}
+use Rattle.pcj_term.proofs.ByteLemmas.{same_bytes_are, less_is}
+use Rattle.pcj_term.proofs.OptionLemmas.{map_some}
 use Rattle.pcj_table.specs.declared.row.Row.{Row}
 use Rattle.pcj_table.specs.declared.found.Found.{Found}
 use Rattle.pcj_table.specs.Row.{no_row, has_nothing, is_seen_at}
@@ -22,22 +24,15 @@ use Rattle.pcj_table.specs.Table.{Key, Table, row_at, found, is_before, is_betwe
 use Rattle.pcj_encode.specs.declared.order.Order.TheVariants.{Spo}
 use Rattle.pcj_encode.specs.Range as kind
 use Rattle.pcj_encode.specs.Range.{range_of}
-use Rattle.pcj_encode.proofs.Several.{map_some}
 use Rattle.pcj_rowtables.specs.Rows.{triple_key}
 use Rattle.pcj_sound.specs.Walk.{walked_keys, WalksGoOn, WalksEnd, WalksMeetTriples}
-use Rattle.pcj_sound.proofs.Lists.{nothing_in, first_or_later, first_there, later_there}
+use Rattle.pcj_term.proofs.ListLemmas.{nothing_in, first_or_later, first_there, later_there}
+use Rattle.pcj_term.proofs.BoolLemmas.{true_from_T}
 use Rattle.pcj_sound.proofs.Filtered.{there_before, passes_there, there_filtered}
-use Rattle.pcj_sound.proofs.Walks.{is_less, walked_parts, walks_see_triples}
+use Rattle.pcj_sound.proofs.Walks.{walked_parts, walks_see_triples}
 
 abbrev Entry : Type 0
 Entry = Key × Row
-
-abbrev bytes_cmp : Key → Key → Ordering
-bytes_cmp = slice_cmp nat_cmp
-
-is_true : (b : Bool) → T b → b ≡ true
-is_true true holds = refl
-is_true false holds = absurd holds
 
 -- ---- keys in order
 
@@ -51,7 +46,7 @@ not_back key other less = ap is_lt (nat_list_cmp_total.antisymm other key ∙ ap
 above_low : (low : Key) (es : List Entry) (entry : Entry) → below_all bytes_cmp low es ≡ true → Contains es entry → bytes_cmp low entry.0 ≡ Less
 above_low low [] entry all there = absurd (nothing_in entry there)
 above_low low (first ∷ es) entry all there = elim (first_or_later first es entry there) [
-  | inl here ↦ subst (λ (e : Entry). bytes_cmp low e.0 ≡ Less) here (is_less _ (and_parts _ _ all).0)
+  | inl here ↦ subst (λ (e : Entry). bytes_cmp low e.0 ≡ Less) here (less_is _ (and_parts _ _ all).0)
   | inr later ↦ above_low low es entry (and_parts _ _ all).1 later
 ]
 
@@ -83,7 +78,7 @@ met_from after end at first es above passes =
     same_filter (is_next_at after end at) (is_next_at first.0 end at) es same ∙ sym (passed_over first.0 end at first es (not_before_itself first.0))
   where
     low : bytes_cmp after first.0 ≡ Less
-    low = is_less _ (and_parts _ _ (and_parts (is_between after end first.0) (is_seen_at at first.1) passes).0).0
+    low = less_is _ (and_parts _ _ (and_parts (is_between after end first.0) (is_seen_at at first.1) passes).0).0
 
     same : (entry : Entry) → Contains es entry → is_next_at after end at entry ≡ is_next_at first.0 end at entry
     same entry there =
@@ -140,7 +135,7 @@ there_looked_up (first ∷ es) key row is = by (is_eq (bytes_cmp key first.0)) r
     by false e is later = later_there first es (key, row) (later is)
 
 rising : (table : Table) → is_sorted bytes_cmp (finmap.entries table) ≡ true
-rising table = is_true _ (entries_sorted table)
+rising table = true_from_T _ (entries_sorted table)
 
 row_there : (table : Table) (entry : Entry) → Contains (finmap.entries table) entry → row_at table entry.0 ≡ entry.1
 row_there table entry there = ap (λ o. unwrap_or o no_row) (get-entries table entry.0 ∙ looked_up (finmap.entries table) entry (rising table) there)

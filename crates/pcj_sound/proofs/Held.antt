@@ -5,45 +5,23 @@ use Rattle.std.specs.Option.{option_map}
 use Rattle.std.proofs.lemmas.Bool.{cases_Bool}
 use Rattle.std.proofs.lemmas.List.Elements.{All-nil, All-contains}
 use Rattle.pcj_term.specs.declared.triple.Triple.{Triple}
-use Rattle.pcj_term.specs.Order.{same_bytes}
-use Rattle.pcj_term.proofs.ByteLemmas.{same_bytes_are, same_bytes_itself}
 use Rattle.pcj_table.specs.declared.lock.Lock.{Lock}
 use Rattle.pcj_table.specs.declared.version.Version.{Version}
 use Rattle.pcj_table.specs.declared.plain.Plain.{Plain}
 use Rattle.pcj_table.specs.declared.row.Row.{Row}
 use Rattle.pcj_table.specs.Row.{no_row, has_nothing, is_empty, newest}
 use Rattle.pcj_table.specs.Table.{Key}
+use Rattle.pcj_table.proofs.RowLemmas.{no_row_is}
 use Rattle.pcj_encode.specs.declared.order.Order.{Order}
 use Rattle.pcj_oracle.specs.Clock.{clock_key}
 use Rattle.pcj_rowtables.specs.Rows.{triple_key}
 use Rattle.pcj_mvcc.specs.Reading.{Rows, Put, standing, put_of}
 use Rattle.pcj_mvcc.proofs.Laws.{read_unlocked}
 use Rattle.pcj_sound.specs.Fit.{IsPutBelow, IsLockBelow, IsTripleRow, IsClockRow, Decodes, HasVersion, HasLock}
-use Rattle.pcj_sound.proofs.Lists.{nothing_in, first_there, later_there}
+use Rattle.pcj_term.proofs.ListLemmas.{nothing_in, first_there, later_there}
 use Rattle.pcj_sound.proofs.Keys.{not_clock}
 
-pub key_cases : (key other : Key) → (key ≡ other) ⊎ (key ≢ other)
-key_cases key other = elim (cases_Bool (same_bytes key other)) [
-  | inl same ↦ inl (same_bytes_are key other same)
-  | inr apart ↦ inr (λ e. absurd (let is : same_bytes key other ≡ true = subst (λ k. same_bytes key k ≡ true) e (same_bytes_itself key) in cc))
-]
-
 -- ---- rows
-
-pub row_is : (row : Row) → row.lock ≡ None → row.versions ≡ [] → row.plain ≡ None → row ≡ no_row
-row_is row lock versions plain =
-    let row_of : Option Lock → List Version → Option Plain → Row = λ l vs p. record { lock = l; versions = vs; plain = p } in
-    ap (λ l. row_of l row.versions row.plain) lock ∙ ap (λ vs. row_of None vs row.plain) versions ∙ ap (row_of None []) plain
-
-no_parts : (lock : Option Lock) (versions : List Version) (plain : Option Plain) → (not (is_some lock) && is_empty versions && not (is_some plain)) ≡ true →
-    (lock ≡ None) × (versions ≡ []) × (plain ≡ None)
-no_parts None [] None none = (refl, refl, refl)
-no_parts None [] (Some plain) none = absurd cc
-no_parts None (version ∷ versions) plain none = absurd cc
-no_parts (Some lock) versions plain none = absurd cc
-
-pub no_row_is : (row : Row) → has_nothing row ≡ true → row ≡ no_row
-no_row_is row none = let parts = no_parts row.lock row.versions row.plain none in row_is row parts.0 parts.1 parts.2
 
 pub version_held : (row : Row) (version : Version) → Contains row.versions version → has_nothing row ≡ false
 version_held row version there = elim (cases_Bool (has_nothing row)) [

@@ -18,7 +18,7 @@ use Rattle.pcj_oracle.specs.Clock.{clock_key}
 use Rattle.pcj_rowtables.specs.Rows.{triple_key}
 use Rattle.pcj_sound.specs.Fit.{AreLoadsBelow, IsTripleKey}
 use Rattle.pcj_sound.specs.Load.{is_one_of, load_keys}
-use Rattle.pcj_sound.proofs.Lists.{nothing_in, first_or_later, first_there, later_there, at_recursion, none_passes, none_before}
+use Rattle.pcj_term.proofs.ListLemmas.{nothing_in, first_or_later, first_there, later_there, at_recursion, none_passes, none_before}
 
 -- a triple's key isn't the clock's
 pub not_clock : (order : Order) (triple : Triple) → triple_key order triple ≢ clock_key

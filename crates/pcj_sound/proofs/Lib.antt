@@ -1,4 +1,3 @@
-pub mod Lists
 pub mod Keys
 pub mod Held
 pub mod Empty

@@ -12,7 +12,7 @@ use Rattle.pcj_mvcc.specs.Reading.{Rows}
 use Rattle.pcj_mvcc.specs.Times.{ascends, starts_first, TimesInOrder}
 use Rattle.pcj_sound.specs.Fit.{Fit, Decodes, IsDecoded, IsPutBelow, IsTripleRow, IsTripleKey, NumbersApart, OneCommit, AtomicRows, HasVersion, HasLock}
 use Rattle.pcj_sound.specs.Load.{NoLocks}
-use Rattle.pcj_sound.proofs.Lists.{nothing_in, first_or_later}
+use Rattle.pcj_term.proofs.ListLemmas.{nothing_in, first_or_later}
 use Rattle.pcj_sound.proofs.Held.{version_below}
 use Rattle.pcj_sound.proofs.Drawn.{decoded_grows}
 

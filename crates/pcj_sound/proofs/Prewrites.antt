@@ -6,7 +6,7 @@ use Rattle.std.proofs.lemmas.List.Folds.{list_any_at}
 use Rattle.std.proofs.lemmas.List.Elements.{All-contains}
 use Rattle.pcj_term.specs.declared.triple.Triple.{Triple}
 use Rattle.pcj_term.specs.Order.{same_bytes}
-use Rattle.pcj_term.proofs.ByteLemmas.{other_bytes, same_bytes_itself}
+use Rattle.pcj_term.proofs.ByteLemmas.{other_bytes, same_bytes_itself, bytes_cases}
 use Rattle.pcj_table.specs.declared.lock.Lock.{Lock}
 use Rattle.pcj_table.specs.declared.version.Version.{Version}
 use Rattle.pcj_table.specs.declared.row.Row.{Row}
@@ -24,9 +24,9 @@ use Rattle.pcj_mvcc.proofs.Laws.{read_uncommitted}
 use Rattle.pcj_sound.specs.Fit.{HasVersion, IsClockRow}
 use Rattle.pcj_sound.specs.Load.{IsLoad, is_one_of, load_keys, load_lock, locked_rows, write_at}
 use Rattle.pcj_sound.specs.LoadLaws.{PrewritesGoOn, PrewritesKeepTriples, DrawsPassLocks, DrawsKeepLoads, KeysAreDistinct}
-use Rattle.pcj_sound.proofs.Lists.{first_there, later_there, passed_by_first}
+use Rattle.pcj_term.proofs.ListLemmas.{first_there, later_there, passed_by_first}
 use Rattle.pcj_sound.proofs.Keys.{key_of_one, load_key_of, not_yet, keys_distinct, clock_is_none}
-use Rattle.pcj_sound.proofs.Held.{key_cases, version_below, unlocked_stands}
+use Rattle.pcj_sound.proofs.Held.{version_below, unlocked_stands}
 use Rattle.pcj_sound.proofs.Drawn.{has_alike, draws_keep_settled}
 use Rattle.pcj_sound.proofs.Told.{absent_has_nothing}
 use Rattle.pcj_sound.proofs.Changed.{changed_here, changed_elsewhere, change_more}
@@ -167,7 +167,7 @@ draws_pass_locks start primary added count rows old new locked drawn = (
     clock = subst IsClockRow (sym (put_same rows clock_key (new clock_key))) drawn.clock;
     others = λ key other. put_other rows clock_key (new clock_key) key (other_bytes key clock_key other);
   },
-  rows_alike _ _ (λ key. elim (key_cases key clock_key) [ inl here ↦ at_clock key here | inr other ↦ elsewhere key other ]),
+  rows_alike _ _ (λ key. elim (bytes_cases key clock_key) [ inl here ↦ at_clock key here | inr other ↦ elsewhere key other ]),
 )
   where
     after : Rows

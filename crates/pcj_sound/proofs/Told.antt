@@ -7,6 +7,7 @@ use Rattle.pcj_term.specs.declared.triple.Triple.{Triple}
 use Rattle.pcj_table.specs.declared.row.Row.{Row}
 use Rattle.pcj_table.specs.Row.{no_row, has_nothing, newest}
 use Rattle.pcj_table.specs.Table.{Key, shown}
+use Rattle.pcj_table.proofs.RowLemmas.{row_is, no_row_is}
 use Rattle.pcj_encode.specs.declared.order.Order.{Order}
 use Rattle.pcj_encode.specs.declared.order.Order.TheVariants.{Spo, Pos, Osp}
 use Rattle.pcj_encode.specs.Name.{IsTriple}
@@ -15,7 +16,7 @@ use Rattle.pcj_mvcc.specs.Reading.{Rows, Put, standing, put_of}
 use Rattle.pcj_sound.specs.Fit.{AtomicRows}
 use Rattle.pcj_sound.specs.Load.{Settled}
 use Rattle.pcj_sound.specs.Laws.{AbsentHasNothing, ReadsTell, SameTriples}
-use Rattle.pcj_sound.proofs.Held.{triple_row, none_stands, unlocked_stands, row_is, no_row_is}
+use Rattle.pcj_sound.proofs.Held.{triple_row, none_stands, unlocked_stands}
 
 some_or_none : {T : Type 0} (found : Option T) → IsSome found ⊎ (found ≡ None)
 some_or_none None = inr refl

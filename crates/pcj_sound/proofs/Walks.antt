@@ -3,15 +3,15 @@ use Rattle.std.proofs.Common.{◌≡◌, inl, inr, ◌≤◌, ◌<◌, ◌+◌, 
 use Rattle.std.specs.List.{All, Contains}
 use Rattle.std.specs.Ordering.{is_lt}
 use Rattle.std.specs.Option.{option_map}
-use Rattle.std.specs.declared.cmp.Ordering.{Ordering}
-use Rattle.std.specs.declared.cmp.Ordering.TheVariants.{Less, Equal, Greater}
 use Rattle.std.proofs.lemmas.Bool.{cases_Bool, and_parts, and_from, false_from_ne_true, true_from_ne_false}
 use Rattle.std.proofs.lemmas.List.Elements.{All-contains}
 use Rattle.pcj_term.specs.declared.triple.Triple.{Triple}
+use Rattle.pcj_term.proofs.ByteLemmas.{less_is}
 use Rattle.pcj_table.specs.declared.version.Version.{Version}
 use Rattle.pcj_table.specs.declared.row.Row.{Row}
 use Rattle.pcj_table.specs.Row.{has_nothing, newest, is_seen_at}
 use Rattle.pcj_table.specs.Table.{Key, shown, is_before, is_between, is_next_at}
+use Rattle.pcj_table.proofs.RowLemmas.{no_row_is}
 use Rattle.pcj_encode.specs.declared.order.Order.{Order}
 use Rattle.pcj_encode.specs.declared.order.Order.TheVariants.{Spo, Pos, Osp}
 use Rattle.pcj_encode.specs.declared.key_name.KeyName.TheVariants as row
@@ -27,13 +27,8 @@ use Rattle.pcj_sound.specs.Fit.{IsPutBelow}
 use Rattle.pcj_sound.specs.Load.{Settled}
 use Rattle.pcj_sound.specs.Laws.{NoKeyIsEmpty, SettledHasNoCommittedLocks}
 use Rattle.pcj_sound.specs.Walk.{WalksSeeTriples}
-use Rattle.pcj_sound.proofs.Held.{no_row_is, triple_row, newest_there, unlocked_stands}
+use Rattle.pcj_sound.proofs.Held.{triple_row, newest_there, unlocked_stands}
 use Rattle.pcj_sound.proofs.Told.{reads_tell}
-
-pub is_less : (order : Ordering) → is_lt order ≡ true → order ≡ Less
-is_less Less e = refl
-is_less Equal e = absurd cc
-is_less Greater e = absurd cc
 
 -- ---- keys
 
@@ -76,7 +71,7 @@ pub walked_parts : (at : ℕ) (key : Key) (row : Row) → is_next_at (range_of k
 walked_parts at key row passes =
     let both = and_parts (is_between (range_of kind.triples).after (range_of kind.triples).end key) (is_seen_at at row) passes in
     let ends = and_parts (is_before (range_of kind.triples).after key) (is_before key (range_of kind.triples).end) both.0 in
-    ((is_less _ ends.0, is_less _ ends.1), false_from_ne_true (has_nothing row) (λ none. absurd (let no' : false ≡ true = sym (ap (is_seen_at at) (no_row_is row none)) ∙ both.1 in cc)))
+    ((less_is _ ends.0, less_is _ ends.1), false_from_ne_true (has_nothing row) (λ none. absurd (let no' : false ≡ true = sym (ap (is_seen_at at) (no_row_is row none)) ∙ both.1 in cc)))
 
 -- a name whose key is in the range is a triple's in the order SPO
 spo_name : (order : Order) (triple : Triple) → IsTriple triple → Holds (range_of kind.triples) (triple_key order triple) → order ≡ Spo

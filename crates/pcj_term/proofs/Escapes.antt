@@ -6,7 +6,7 @@ use Rattle.std.proofs.lemmas.List.{take_all, length-drop}
 use Rattle.std.proofs.lemmas.Option.{cond_some, same_Some}
 use Rattle.pcj_term.specs.Term.{escape_of, escaped}
 use Rattle.pcj_term.specs.Reading.{◌>>=◌, after, is_plain, unescaped, printed_byte, with_front, text_at}
-use Rattle.pcj_term.proofs.Parts.{bind_some}
+use Rattle.pcj_term.proofs.OptionLemmas.{bind_some}
 
 -- what a byte that stands for itself is not
 record IsNoneOfFive (byte : ℕ) : Type 0 where

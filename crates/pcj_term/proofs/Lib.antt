@@ -1,9 +1,12 @@
+pub mod BoolLemmas
 pub mod ByteLemmas
 pub mod Cells
 pub mod Derived
 pub mod Escapes
 pub mod IntegerText
 pub mod Iris
+pub mod ListLemmas
+pub mod OptionLemmas
 pub mod Parts
 pub mod Reading
 pub mod Same

@@ -11,12 +11,8 @@ use Rattle.std.proofs.lemmas.Option.{cond_some, same_Some}
 use Rattle.std.proofs.lemmas.Str.{IsUtf8-from_ascii}
 use Rattle.std.proofs.lemmas.Str.Parse.{parse_plain, digit_from_value}
 use Rattle.pcj_term.proofs.IntegerText.{digits_tested, ascii_digits}
-use Rattle.pcj_term.specs.Reading.{◌>>=◌, after, before, cut, is_canonical, number_of}
-
--- a step that gave something
-pub bind_some : {A B : Type 0} (o : Option A) (f : A → Option B) (y : B) → (o >>= f) ≡ Some y → (x : A) × (o ≡ Some x) × (f x ≡ Some y)
-bind_some None f y e = absurd cc
-bind_some (Some x) f y e = (x, refl, e)
+use Rattle.pcj_term.proofs.OptionLemmas.{bind_some}
+use Rattle.pcj_term.specs.Reading.{after, before, cut, is_canonical, number_of}
 
 -- ---- one byte
 
@@ -26,9 +22,6 @@ after_takes byte (first ∷ bytes) rest e =
     let found = cond_some (nat_eq first byte) bytes rest e in
     let same : first ≡ byte = eqb-true first byte found.0 in
     rw (same, found.1) refl
-
-pub after_again : (byte : ℕ) (rest : List ℕ) → after byte (byte ∷ rest) ≡ Some rest
-after_again byte rest = let same = eq-eqb byte byte refl in rw same refl
 
 pub before_takes : (byte : ℕ) (bytes front : List ℕ) → before byte bytes ≡ Some front → bytes ≡ front ++ byte ∷ []
 before_takes byte [] front e = absurd cc

@@ -15,13 +15,10 @@ use Rattle.pcj_term.specs.Valid.{IsValid, IsValidKind, xsd_string}
 use Rattle.pcj_term.specs.Read.{Reads}
 use Rattle.pcj_term.specs.Reading.{begins_with, after, before, cut, iri_of, number_of, node_of, text_at, kind_of, lang_of, typed_of, literal_of, term_of}
 use Rattle.pcj_term.specs.Order.{same_bytes}
-use Rattle.pcj_term.proofs.Parts.{bind_some, after_takes, before_takes, before_again, cut_takes, cut_digits, number_takes, number_again, decimal_digits}
+use Rattle.pcj_term.proofs.Parts.{after_takes, before_takes, before_again, cut_takes, cut_digits, number_takes, number_again, decimal_digits}
 use Rattle.pcj_term.proofs.Escapes.{text_takes, text_again}
 use Rattle.pcj_term.proofs.ByteLemmas.{same_bytes-Decides}
-
-map_some : {A B : Type 0} (f : A → B) (o : Option A) (y : B) → option_map f o ≡ Some y → (x : A) × (o ≡ Some x) × (f x ≡ y)
-map_some f None y e = absurd cc
-map_some f (Some x) y e = (x, refl, same_Some (f x) y e)
+use Rattle.pcj_term.proofs.OptionLemmas.{map_some, bind_some}
 
 -- ---- an IRI
 
