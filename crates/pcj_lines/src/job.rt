@@ -1,4 +1,4 @@
-ghost use Rattle.std.specs.Prelude.{◌≡◌, ◌++◌, OnOk};
+ghost use Rattle.std.specs.Prelude.{◌≡◌, ◌++◌, OnOk, OnErr};
 ghost use Rattle.pcj_lines.specs.Lines.{ended, loaded_line, registered_line, committed_line, refused_line, taken_line};
 
 use pcj_term::{Bytes, Memory};
@@ -12,12 +12,12 @@ pub fn push_loaded(
     number: u64,
     count: usize,
 ) -> Result<(), Memory>
-    ensures { OnOk result (out.new ≡ out.old ++ ended (loaded_line client number count)) }
+    ensures ok { OnOk result (out.new ≡ out.old ++ ended (loaded_line client number count)) }
+    ensures err { OnErr result (out.new ≡ out.old) }
 {
     let start = format!(in alloc; "c{client} load {number}")?;
-    out.extend_from_slice(start.as_bytes())?;
     let end = format!(in alloc; " {count} triples\n")?;
-    out.extend_from_slice(end.as_bytes())
+    out.extend_from_pieces(&[start.as_bytes(), end.as_bytes()])
 }
 
 /// Adds `cN register T NAME`: the registration's number, and the query's name.
@@ -28,17 +28,17 @@ pub fn push_registered(
     number: u64,
     name: &Bytes,
 ) -> Result<(), Memory>
-    ensures { OnOk result (out.new ≡ out.old ++ ended (registered_line client number name.now)) }
+    ensures ok { OnOk result (out.new ≡ out.old ++ ended (registered_line client number name.now)) }
+    ensures err { OnErr result (out.new ≡ out.old) }
 {
     let line = format!(in alloc; "c{client} register {number} ")?;
-    out.extend_from_slice(line.as_bytes())?;
-    out.extend_from_slice(name.as_slice())?;
-    out.push(b'\n')
+    out.extend_from_pieces(&[line.as_bytes(), name.as_slice(), b"\n".as_slice()])
 }
 
 /// Adds `cN committed U`: the commit timestamp.
 pub fn push_committed(alloc: Global, out: &mut Bytes, client: u8, number: u64) -> Result<(), Memory>
-    ensures { OnOk result (out.new ≡ out.old ++ ended (committed_line client number)) }
+    ensures ok { OnOk result (out.new ≡ out.old ++ ended (committed_line client number)) }
+    ensures err { OnErr result (out.new ≡ out.old) }
 {
     let line = format!(in alloc; "c{client} committed {number}\n")?;
     out.extend_from_slice(line.as_bytes())
@@ -53,7 +53,8 @@ pub fn push_refused(
     place: u64,
     kind: u8,
 ) -> Result<(), Memory>
-    ensures { OnOk result (out.new ≡ out.old ++ ended (refused_line client place kind)) }
+    ensures ok { OnOk result (out.new ≡ out.old ++ ended (refused_line client place kind)) }
+    ensures err { OnErr result (out.new ≡ out.old) }
 {
     let line = format!(in alloc; "c{client} refused {place} {kind}\n")?;
     out.extend_from_slice(line.as_bytes())
@@ -61,7 +62,8 @@ pub fn push_refused(
 
 /// Adds `cN taken`, for a registration whose name is taken.
 pub fn push_taken(alloc: Global, out: &mut Bytes, client: u8) -> Result<(), Memory>
-    ensures { OnOk result (out.new ≡ out.old ++ ended (taken_line client)) }
+    ensures ok { OnOk result (out.new ≡ out.old ++ ended (taken_line client)) }
+    ensures err { OnErr result (out.new ≡ out.old) }
 {
     let line = format!(in alloc; "c{client} taken\n")?;
     out.extend_from_slice(line.as_bytes())

@@ -1,4 +1,5 @@
-//! The lines of a transcript: one call for each kind of line, which adds it with its LF to some bytes.
+//! The lines of a transcript: one call for each kind of line, which adds it with its LF to some
+//! bytes, or leaves them as they were where there is no memory for it.
 #![tactic(auto)]
 
 mod answer;

@@ -4,6 +4,7 @@ pub mod Cells
 pub mod Derived
 pub mod Escapes
 pub mod IntegerText
+pub mod FrontLemmas
 pub mod Iris
 pub mod ListLemmas
 pub mod OptionLemmas

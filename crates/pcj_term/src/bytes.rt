@@ -1,4 +1,5 @@
-ghost use Rattle.std.specs.Prelude.{◌==◌, ◌≡◌, ◌↔◌, ◌≤◌, [], ◌∷◌, ◌++◌, length, slice_get, IsTrue, IsNone, IfOk, OnOk, OnErr};
+ghost use Rattle.std.specs.Prelude.{◌==◌, ◌≡◌, ◌↔◌, ◌≤◌, [], ◌∷◌, ◌++◌, length, take, slice_get, IsTrue, IsNone, IfOk, OnOk, OnErr};
+ghost use Rattle.std.specs.List.{flat_map};
 ghost use Rattle.std.specs.Cmp.{partial_order_from_own_ties};
 ghost use Rattle.pcj_term.specs.Order.{same_bytes, bytes_cmp};
 ghost use Rattle.std.specs.Ordering.{as_partial_cmp};
@@ -78,6 +79,29 @@ impl Bytes {
         Ok(())
     }
 
+    /// Adds the bytes of each piece at the end, one after another, all or none: after `Memory` the list is as it was.
+    pub fn extend_from_pieces(&mut self, pieces: &[&[u8]]) -> Result<(), Memory>
+        ensures ok { OnOk result (self.new ≡ self.old ++ flat_map (λ piece. piece.now) pieces.now) }
+        ensures err { OnErr result (self.new ≡ self.old) }
+    {
+        self.reserve(total_len(pieces))?;
+        let len = self.len();
+        for piece in pieces {
+            if self.bytes.extend_from_slice(piece).is_err() {
+                self.bytes.truncate(len);
+                return Err(Memory);
+            }
+        }
+        Ok(())
+    }
+
+    /// Keeps this many bytes from the front, or all where there are fewer.
+    pub(crate) fn truncate(&mut self, len: usize)
+        ensures { self.new ≡ take len self.old }
+    {
+        self.bytes.truncate(len);
+    }
+
     /// Makes room for more bytes, so that adding that many asks for no memory.
     pub(crate) fn reserve(&mut self, additional: usize) -> Result<(), Memory>
         ensures { self.new ≡ self.old }
@@ -114,6 +138,15 @@ impl Bytes {
     {
         self.bytes.as_slice()
     }
+}
+
+/// How many bytes the pieces have together, or the most that can be said.
+fn total_len(pieces: &[&[u8]]) -> usize {
+    let mut len: usize = 0;
+    for piece in pieces {
+        len = len.saturating_add(piece.len());
+    }
+    len
 }
 
 impl TryClone for Bytes {

@@ -1,4 +1,5 @@
-ghost use Rattle.std.specs.Prelude.{◌≡◌, ◌++◌, IfOk, OnOk};
+ghost use Rattle.std.specs.Prelude.{◌≡◌, ◌++◌, IfOk, OnOk, OnErr};
+ghost use Rattle.std.specs.Io.{StartsWith};
 ghost use Rattle.pcj_term.specs.Term.{printed, bracketed, node_name, quoted, suffix_of, escaped, escape_of};
 
 use crate::pieces::{cut_plain, is_plain};
@@ -14,9 +15,10 @@ pub fn print_term(alloc: Global, term: &Term) -> Result<Bytes, Memory>
     Ok(out)
 }
 
-/// Adds the printed form of a term at the end. After `Memory` a part of it may stand there.
+/// Adds the printed form of a term at the end. After `Memory` the bytes are as they were.
 pub fn push_term(alloc: Global, out: &mut Bytes, term: &Term) -> Result<(), Memory>
-    ensures { OnOk result (out.new ≡ out.old ++ printed term.now) }
+    ensures ok { OnOk result (out.new ≡ out.old ++ printed term.now) }
+    ensures err { OnErr result (out.new ≡ out.old) }
 {
     match term {
         Term::Iri(iri) => push_iri(out, iri),
@@ -26,25 +28,36 @@ pub fn push_term(alloc: Global, out: &mut Bytes, term: &Term) -> Result<(), Memo
 }
 
 fn push_iri(out: &mut Bytes, iri: &Bytes) -> Result<(), Memory>
-    ensures { OnOk result (out.new ≡ out.old ++ bracketed iri.now) }
+    ensures ok { OnOk result (out.new ≡ out.old ++ bracketed iri.now) }
+    ensures err { OnErr result (out.new ≡ out.old) }
 {
-    out.reserve(iri.len().saturating_add(2))?;
-    out.push(b'<')?;
-    out.extend_from_slice(iri.as_slice())?;
-    out.push(b'>')
+    out.extend_from_pieces(&[b"<".as_slice(), iri.as_slice(), b">".as_slice()])
 }
 
 fn push_blank(alloc: Global, out: &mut Bytes, load: u64, label: &Bytes) -> Result<(), Memory>
-    ensures { OnOk result (out.new ≡ out.old ++ node_name load label.now) }
+    ensures ok { OnOk result (out.new ≡ out.old ++ node_name load label.now) }
+    ensures err { OnErr result (out.new ≡ out.old) }
 {
     let name = format!(in alloc; "_:t{load}x")?;
-    out.reserve(name.len().saturating_add(label.len()))?;
-    out.extend_from_slice(name.as_bytes())?;
-    out.extend_from_slice(label.as_slice())
+    out.extend_from_pieces(&[name.as_bytes(), label.as_slice()])
 }
 
 fn push_literal(out: &mut Bytes, text: &Bytes, kind: &Kind) -> Result<(), Memory>
-    ensures { OnOk result (out.new ≡ out.old ++ quoted text.now ++ suffix_of kind.now) }
+    ensures ok { OnOk result (out.new ≡ out.old ++ quoted text.now ++ suffix_of kind.now) }
+    ensures err { OnErr result (out.new ≡ out.old) }
+{
+    let len = out.len();
+    let pushed = push_in_part(out, text, kind);
+    if pushed.is_err() {
+        out.truncate(len);
+    }
+    pushed
+}
+
+/// Adds a literal at the end, or a front of it.
+fn push_in_part(out: &mut Bytes, text: &Bytes, kind: &Kind) -> Result<(), Memory>
+    ensures ok { OnOk result (out.new ≡ out.old ++ quoted text.now ++ suffix_of kind.now) }
+    ensures kept { StartsWith out.new out.old }
 {
     out.reserve(escaped_len(text.as_slice()).saturating_add(suffix_len(kind)))?;
     out.push(b'"')?;
@@ -69,7 +82,8 @@ fn suffix_len(kind: &Kind) -> usize {
 }
 
 fn push_escaped(out: &mut Bytes, text: &[u8]) -> Result<(), Memory>
-    ensures { OnOk result (out.new ≡ out.old ++ escaped text.now) }
+    ensures ok { OnOk result (out.new ≡ out.old ++ escaped text.now) }
+    ensures kept { StartsWith out.new out.old }
 {
     let mut rest = text;
     loop {
@@ -84,7 +98,8 @@ fn push_escaped(out: &mut Bytes, text: &[u8]) -> Result<(), Memory>
 }
 
 fn push_escape(out: &mut Bytes, byte: u8) -> Result<(), Memory>
-    ensures { OnOk result (out.new ≡ out.old ++ escape_of byte) }
+    ensures ok { OnOk result (out.new ≡ out.old ++ escape_of byte) }
+    ensures err { OnErr result (out.new ≡ out.old) }
 {
     match byte {
         b'\t' => out.extend_from_slice(b"\\t"),
@@ -97,17 +112,14 @@ fn push_escape(out: &mut Bytes, byte: u8) -> Result<(), Memory>
 }
 
 fn push_suffix(out: &mut Bytes, kind: &Kind) -> Result<(), Memory>
-    ensures { OnOk result (out.new ≡ out.old ++ suffix_of kind.now) }
+    ensures ok { OnOk result (out.new ≡ out.old ++ suffix_of kind.now) }
+    ensures err { OnErr result (out.new ≡ out.old) }
 {
     match kind {
         Kind::Plain => Ok(()),
-        Kind::Lang(tag) => {
-            out.push(b'@')?;
-            out.extend_from_slice(tag.as_slice())
-        }
+        Kind::Lang(tag) => out.extend_from_pieces(&[b"@".as_slice(), tag.as_slice()]),
         Kind::Typed(datatype) => {
-            out.extend_from_slice(b"^^")?;
-            push_iri(out, datatype)
+            out.extend_from_pieces(&[b"^^<".as_slice(), datatype.as_slice(), b">".as_slice()])
         }
     }
 }
