@@ -1,5 +1,6 @@
 -- A document that is read under a number that was drawn may be loaded.
 use Rattle.std.proofs.Common.{◌≡◌, ◌≤◌, ◌+◌, ℕ, List, Option, sym, subst, ◌∙◌, arith}
+use Rattle.std.proofs.lemmas.List.Elements.{All-weaker}
 use Rattle.std.specs.List.{All, IsDistinct}
 use Rattle.pcj_term.specs.declared.term.Term.{Term}
 use Rattle.pcj_term.specs.declared.term.Term.TheVariants as terms
@@ -30,14 +31,11 @@ loads_below number first triple is = record {
   object = load_below number first triple.object is.carries.2;
 }
 
-all_weaker : {X : Type 0} (P Q : X → Type 0) (xs : List X) → ((x : X) → P x → Q x) → All P xs → All Q xs
-all_weaker P Q xs f all = λ k d within. f _ (all k d within)
-
 pub document_starts : (last number : ℕ) (text : List ℕ) (triples loaded : List Triple) (oracle oracle' : Option Block) (table after : Table) → Rests last triples oracle table →
     IsNumber number oracle table oracle' after → IsClock oracle' after → Document text number loaded → Starts number triples loaded oracle' after
 document_starts last number text triples loaded oracle oracle' table after rests drawn clock document =
     let is : number ≡ last + 1 = drawn.is ∙ rests.next in
     let below = drawn.below in
     let all = has_valid_triples text number loaded (omega (arith, below)) document in
-    draw_starts last number triples loaded oracle oracle' table after rests drawn clock (all_weaker (IsTripleOf number) IsTriple loaded (λ triple t. t.valid) all)
-    (all_weaker (IsTripleOf number) (AreLoadsBelow (number + 1)) loaded (loads_below number (omega (arith, is))) all) (subst (IsDistinct same_triple) (sym document.kept) (distinct_are_once _))
+    draw_starts last number triples loaded oracle oracle' table after rests drawn clock (All-weaker (IsTripleOf number) IsTriple (λ triple t. t.valid) loaded all)
+    (All-weaker (IsTripleOf number) (AreLoadsBelow (number + 1)) (loads_below number (omega (arith, is))) loaded all) (subst (IsDistinct same_triple) (sym document.kept) (distinct_are_once _))
