@@ -15,7 +15,7 @@ use Rattle.std.proofs.lemmas.Cmp.{nat_list_cmp_total}
 use Rattle.std.proofs.lemmas.Bool.{and_parts, and_left, cond-true, cond-false}
 use Rattle.pcj_term.specs.declared.triple.Triple.{Triple}
 use Rattle.pcj_term.specs.Order.{bytes_cmp}
-use Rattle.pcj_term.proofs.ByteLemmas.{same_bytes_are, less_is}
+use Rattle.pcj_term.proofs.ByteLemmas.{same_bytes_are, less_is, is_eq-bytes_cmp}
 use Rattle.pcj_term.proofs.OptionLemmas.{map_some}
 use Rattle.pcj_table.specs.declared.row.Row.{Row}
 use Rattle.pcj_table.specs.declared.found.Found.{Found}
@@ -131,7 +131,7 @@ there_looked_up (first ∷ es) key row is = by (is_eq (bytes_cmp key first.0)) r
     by : (b : Bool) → is_eq (bytes_cmp key first.0) ≡ b → cond b (Some first.1) (entries.find bytes_cmp key es) ≡ Some row → (entries.find bytes_cmp key es ≡ Some row → Contains es (key, row)) → Contains (first ∷ es) (key, row)
     by true e is later =
         let same : first.1 ≡ row = cc in
-        subst (λ (x : Entry). Contains (first ∷ es) x) (ap (λ k. (k, first.1)) (sym (same_bytes_are key first.0 e)) ∙ ap (λ r. (key, r)) same) (first_there first es)
+        subst (λ (x : Entry). Contains (first ∷ es) x) (ap (λ k. (k, first.1)) (sym (same_bytes_are key first.0 (sym (is_eq-bytes_cmp key first.0) ∙ e))) ∙ ap (λ r. (key, r)) same) (first_there first es)
     by false e is later = later_there first es (key, row) (later is)
 
 rising : (table : Table) → is_sorted bytes_cmp (finmap.entries table) ≡ true
