@@ -2,7 +2,7 @@ ghost use Rattle.std.specs.Prelude.{◌≡◌, [], ◌∷◌, ◌++◌, IfOk, On
 ghost use Rattle.std.specs.List.{flat_map};
 ghost use Rattle.pcj_key.specs.Key.{byte_key, key_of};
 
-use crate::plain::{cut_plain, is_plain};
+use crate::plain::{cut_plain, is_plain_in_key};
 use pcj_term::{Bytes, Memory};
 use std::alloc::Global;
 
@@ -29,7 +29,7 @@ fn key_len(parts: &[Bytes]) -> usize {
 
 /// How many bytes a part takes in a key, its end included.
 fn part_len(part: &[u8]) -> usize {
-    let escapes = part.iter().filter(|byte| !is_plain(**byte)).count();
+    let escapes = part.iter().filter(|byte| !is_plain_in_key(**byte)).count();
     part.len().saturating_add(escapes).saturating_add(1)
 }
 

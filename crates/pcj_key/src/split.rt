@@ -4,7 +4,7 @@ ghost use Rattle.pcj_key.specs.Key.{Splits};
 ghost use Rattle.pcj_key.specs.Reading.{first_part, key_byte};
 ghost use Rattle.pcj_term.specs.Reading.{after};
 
-use crate::plain::{cut_plain, is_plain};
+use crate::plain::{cut_plain, is_plain_in_key};
 use pcj_term::{Bytes, Items, Memory};
 use std::alloc::Global;
 
@@ -53,7 +53,7 @@ fn key_byte(key: &[u8]) -> Option<(u8, &[u8])>
     ensures { option_map (λ parts. (parts.0, parts.1.now)) result ≡ key_byte key.now }
 {
     match key {
-        [byte, rest @ ..] if is_plain(*byte) => Some((*byte, rest)),
+        [byte, rest @ ..] if is_plain_in_key(*byte) => Some((*byte, rest)),
         [1, 1, rest @ ..] => Some((0, rest)),
         [1, 2, rest @ ..] => Some((1, rest)),
         _ => None,

@@ -2,12 +2,12 @@ use Rattle.std.proofs.Common.{ℕ, List, [], ◌++◌, ◌∷◌, ◌-◌, lengt
 use Rattle.std.specs.List.{flat_map, prefix_len}
 use Rattle.pcj_term.proofs.Escapes.{first_and_rest, step_shorter}
 use Rattle.pcj_key.specs.Key.{byte_key}
-use Rattle.pcj_key.specs.Reading.{is_plain}
+use Rattle.pcj_key.specs.Reading.{is_plain_in_key}
 use Rattle.pcj_key.proofs.Runs.{key_step, key_last}
 use Rattle.pcj_key.proofs.join.push_part.Goals as goal
 
 pub loop-key-smaller : goal.loop-key-smaller
-loop-key-smaller c = step_shorter c.loop-key.rest.now c.cut_plain.result.1.now (prefix_len is_plain c.loop-key.rest.now) c.cut_plain.ensures.end c.in-len1-up.len_at_least
+loop-key-smaller c = step_shorter c.loop-key.rest.now c.cut_plain.result.1.now (prefix_len is_plain_in_key c.loop-key.rest.now) c.cut_plain.ensures.end c.in-len1-up.len_at_least
 
 pub loop-key-preserved : goal.loop-key-preserved
 loop-key-preserved c =
