@@ -5,7 +5,7 @@ use Rattle.std.proofs.lemmas.Bool.{lt-ltb, le-ltb}
 use Rattle.std.proofs.lemmas.Str.{encodes-append}
 use Rattle.pcj_ntriples.specs.declared.kind.NtKind.{NtKind}
 use Rattle.pcj_ntriples.specs.declared.enclosure.Enclosure.{Enclosure}
-use Rattle.pcj_ntriples.specs.Text.{closing_of, allows, is_hexadecimal}
+use Rattle.pcj_ntriples.specs.Text.{closing_of, allows_character, is_hexadecimal}
 use Rattle.pcj_ntriples.specs.TextReading.{digits_at, escape_at, with_front, text_from, allowed_at, escaped_at, character_at}
 use Rattle.pcj_ntriples.specs.LineReading.{encoded, text_at}
 use Rattle.pcj_ntriples.proofs.Spelling.{goes_on, text_goes_on, escape_taken}
@@ -86,18 +86,18 @@ pub character_shorter : (enclosure : Enclosure) (characters rest : List ℕ) (fo
 character_shorter enclosure [] rest found e = absurd cc
 character_shorter enclosure (character ∷ characters) rest found e = by (nat_eq character (closing_of enclosure)) (nat_eq character 92) refl refl
   where
-    taken : (c : ℕ) (after : List ℕ) (v : Bool) → allows enclosure c ≡ v → allowed_at enclosure c after ≡ Ok (found, rest) → after ≡ rest
+    taken : (c : ℕ) (after : List ℕ) (v : Bool) → allows_character enclosure c ≡ v → allowed_at enclosure c after ≡ Ok (found, rest) → after ≡ rest
     taken c after true p same = let here = rw p at same in ap after_of here
     taken c after false p same = let here = rw p at same in absurd cc
 
     escaped : (o : Option (ℕ × List ℕ)) → escape_at enclosure characters ≡ o → escaped_at enclosure o ≡ Ok (found, rest) → length rest < length (character ∷ characters)
     escaped None p same = absurd cc
     escaped (Some f) p same =
-        let after = taken f.0 f.1 (allows enclosure f.0) refl same in
+        let after = taken f.0 f.1 (allows_character enclosure f.0) refl same in
         let reads = escape_taken enclosure characters f p in
         omega (arith, ap length after, ap length reads.1, length-append reads.0 f.1)
 
     by : (closing backslash : Bool) → nat_eq character (closing_of enclosure) ≡ closing → nat_eq character 92 ≡ backslash → length rest < length (character ∷ characters)
     by true backslash p q = let here = rw p at e in let same : characters ≡ rest = ap after_of here in omega (arith, ap length same)
     by false true p q = let here = rw (p, q) at e in escaped (escape_at enclosure characters) refl here
-    by false false p q = let here = rw (p, q) at e in let same = taken character characters (allows enclosure character) refl here in omega (arith, ap length same)
+    by false false p q = let here = rw (p, q) at e in let same = taken character characters (allows_character enclosure character) refl here in omega (arith, ap length same)

@@ -12,7 +12,7 @@ use Rattle.pcj_ntriples.specs.declared.kind.NtKind.{NtKind}
 use Rattle.pcj_ntriples.specs.declared.kind.NtKind.TheVariants.{IriChar, BadEscape}
 use Rattle.pcj_ntriples.specs.declared.enclosure.Enclosure.{Enclosure}
 use Rattle.pcj_ntriples.specs.declared.enclosure.Enclosure.TheVariants as enclosures
-use Rattle.pcj_ntriples.specs.Text.{closing_of, allows, unclosed_of, short_escape, short_escape_of, is_hexadecimal, digits_after, IsEscape, BeginsNoEscape, Piece, stands_raw, IsRaw, IsEscaped, IsPiece, written_by, spelled_by, Within, Closes, IsForbiddenRaw, IsForbiddenEscape, HoldsForbidden, IsUnclosed, HasBadEscape}
+use Rattle.pcj_ntriples.specs.Text.{closing_of, allows_character, unclosed_of, short_escape, short_escape_of, is_hexadecimal, digits_after, IsEscape, BeginsNoEscape, Piece, stands_raw, IsRaw, IsEscaped, IsPiece, written_by, spelled_by, Within, Closes, IsForbiddenRaw, IsForbiddenEscape, HoldsForbidden, IsUnclosed, HasBadEscape}
 use Rattle.pcj_ntriples.specs.TextReading.{digits_at, scalar_at, letter_at, escape_by, escape_at, with_front, with_character, after_escape, text_from, allowed_at, escaped_at, character_at}
 
 -- ---- digits
@@ -182,10 +182,10 @@ piece_read enclosure piece rest (inr escaped) =
     ap (λ (t : List ℕ). text_from enclosure 0 (t ++ rest)) escaped.1
     ∙ text_escape enclosure escaped.0 rest piece.character (escape_again enclosure escaped.0 rest piece.character escaped.2)
 
-allowed_read : (enclosure : Enclosure) (character : ℕ) (found : Result (List ℕ × List ℕ) NtKind) → allows enclosure character ≡ true → with_character enclosure character found ≡ with_front (character ∷ []) found
+allowed_read : (enclosure : Enclosure) (character : ℕ) (found : Result (List ℕ × List ℕ) NtKind) → allows_character enclosure character ≡ true → with_character enclosure character found ≡ with_front (character ∷ []) found
 allowed_read enclosure character found allowed = rw allowed refl
 
-forbidden_read : (enclosure : Enclosure) (character : ℕ) (found : Result (List ℕ × List ℕ) NtKind) → allows enclosure character ≡ false → with_character enclosure character found ≡ Err IriChar
+forbidden_read : (enclosure : Enclosure) (character : ℕ) (found : Result (List ℕ × List ℕ) NtKind) → allows_character enclosure character ≡ false → with_character enclosure character found ≡ Err IriChar
 forbidden_read enclosure character found forbidden = rw forbidden refl
 
 front_none : (found : Result (List ℕ × List ℕ) NtKind) → found ≡ with_front [] found
@@ -268,16 +268,16 @@ outcome_onto enclosure piece inner (Err kind) one (inr (inr h)) =
 nothing_yet : (enclosure : Enclosure) (inner : List ℕ) → Within enclosure inner [] inner
 nothing_yet enclosure inner = record { pieces = []; good = tt; written = refl; spelled = refl }
 
-forbidden_here : (enclosure : Enclosure) (piece : Piece) (inner : List ℕ) → Stands enclosure piece → allows enclosure piece.character ≡ false → HoldsForbidden enclosure (piece.written ++ inner)
+forbidden_here : (enclosure : Enclosure) (piece : Piece) (inner : List ℕ) → Stands enclosure piece → allows_character enclosure piece.character ≡ false → HoldsForbidden enclosure (piece.written ++ inner)
 forbidden_here enclosure piece inner (inl raw) barred =
     ([], piece.written ++ inner, nothing_yet enclosure (piece.written ++ inner), inl (subst (λ (t : List ℕ). IsForbiddenRaw enclosure (t ++ inner)) (sym raw.0) (raw.1, barred)))
 forbidden_here enclosure piece inner (inr escaped) barred =
     ([], piece.written ++ inner, nothing_yet enclosure (piece.written ++ inner), inr (escaped.0, inner, piece.character, ap (λ (t : List ℕ). t ++ inner) escaped.1, escaped.2, barred))
 
 outcome_more : (enclosure : Enclosure) (piece : Piece) (inner : List ℕ) (result : Result (List ℕ × List ℕ) NtKind) → Stands enclosure piece → IsTextOutcome enclosure inner result → IsTextOutcome enclosure (piece.written ++ inner) (with_character enclosure piece.character result)
-outcome_more enclosure piece inner result stands outcome = by (allows enclosure piece.character) refl
+outcome_more enclosure piece inner result stands outcome = by (allows_character enclosure piece.character) refl
   where
-    by : (v : Bool) → allows enclosure piece.character ≡ v → IsTextOutcome enclosure (piece.written ++ inner) (with_character enclosure piece.character result)
+    by : (v : Bool) → allows_character enclosure piece.character ≡ v → IsTextOutcome enclosure (piece.written ++ inner) (with_character enclosure piece.character result)
     by true is =
         subst (IsTextOutcome enclosure (piece.written ++ inner)) (sym (allowed_read enclosure piece.character result is))
         (outcome_onto enclosure piece inner result (is, stands) outcome)
@@ -332,9 +332,9 @@ goes_on enclosure (Ok found) = onto found.0 found.1
 goes_on enclosure (Err kind) = Err kind
 
 allowed_goes_on : (enclosure : Enclosure) (character : ℕ) (rest : List ℕ) → with_character enclosure character (text_from enclosure 0 rest) ≡ goes_on enclosure (allowed_at enclosure character rest)
-allowed_goes_on enclosure character rest = by (allows enclosure character) refl
+allowed_goes_on enclosure character rest = by (allows_character enclosure character) refl
   where
-    by : (v : Bool) → allows enclosure character ≡ v → with_character enclosure character (text_from enclosure 0 rest) ≡ goes_on enclosure (allowed_at enclosure character rest)
+    by : (v : Bool) → allows_character enclosure character ≡ v → with_character enclosure character (text_from enclosure 0 rest) ≡ goes_on enclosure (allowed_at enclosure character rest)
     by true p = rw p refl
     by false p = rw p refl
 

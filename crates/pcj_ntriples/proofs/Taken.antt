@@ -25,7 +25,7 @@ use Rattle.pcj_ntriples.specs.Text.{closing_of, written_by, Closes}
 use Rattle.pcj_ntriples.specs.TextReading.{text_from}
 use Rattle.pcj_ntriples.specs.Term.{is_blank, begins_blank, Skips, TakesIri, BeforeDatatype, TakesDatatype, begins_datatype, begins_suffix, TakesKind, Takes, term_limit, WritesBytes, takes_nodes, takes_literals, IsAllowed, expected_at, begins_node, begins_term, TakesTerm, TakesLongTerm}
 use Rattle.pcj_ntriples.specs.Line.{IsNoTag, IsCutTag, IsRelative}
-use Rattle.pcj_ntriples.specs.LineReading.{◌>>=◌, skip_blanks, encoded, iri_at, name_at, node_at, tag_from, lang_of, lang_at, kind_of, datatype_at, kind_at, literal_at, any_term_at, bytes_between, term_at}
+use Rattle.pcj_ntriples.specs.LineReading.{◌>>=◌, skip_blanks, encoded, iri_at, name_at, node_at, tag_from, lang_of, lang_at, kind_of_datatype, datatype_at, kind_at, literal_at, any_term_at, bytes_between, term_at}
 use Rattle.pcj_ntriples.proofs.Spelling.{IsTextFault, IsTextOutcome, text_outcome, closes_read, unclosed_read, bad_escape_read, forbidden_within_read}
 use Rattle.pcj_ntriples.proofs.Names.{IsLangOutcome, lang_outcome, tag_again, tag_fails_again, label_taken, label_again, scalars_parts}
 
@@ -154,14 +154,14 @@ lang_kind : (after inner : List ℕ) → Skips after (64 ∷ inner) → (o : Opt
 lang_kind after inner skips (Some found) outcome = (inner, skips, (found.0, outcome.0, outcome.1, outcome.2, refl))
 lang_kind after inner skips None outcome = inl (refl, (inner, skips, outcome))
 
-typed_kind : (after datatype rest : List ℕ) (v : Bool) → same_bytes datatype xsd_string ≡ v → TakesDatatype after datatype rest → TakesKind after (kind_of datatype) rest
+typed_kind : (after datatype rest : List ℕ) (v : Bool) → same_bytes datatype xsd_string ≡ v → TakesDatatype after datatype rest → TakesKind after (kind_of_datatype datatype) rest
 typed_kind after datatype rest true p h = rw p (inr (subst (λ (d : List ℕ). TakesDatatype after d rest) ((same_bytes-Decides datatype xsd_string).0 p) h))
 typed_kind after datatype rest false p h = rw p (h, λ same. let yes = (same_bytes-Decides datatype xsd_string).1 same in absurd cc)
 
 datatype_kind : (after marked next : List ℕ) → Skips after (94 ∷ 94 ∷ marked) → Skips marked next → IsKindOutcome after (datatype_at next)
 datatype_kind after marked next skips again = by (begins_with 60 next) refl
   where
-    found_by : (inner : List ℕ) → BeforeDatatype after (60 ∷ inner) → (r : Result (List ℕ × List ℕ) NtKind) → IsIriOutcome inner r → IsKindOutcome after (r >>= (λ found. Ok (kind_of found.0, found.1)))
+    found_by : (inner : List ℕ) → BeforeDatatype after (60 ∷ inner) → (r : Result (List ℕ × List ℕ) NtKind) → IsIriOutcome inner r → IsKindOutcome after (r >>= (λ found. Ok (kind_of_datatype found.0, found.1)))
     found_by inner before (Ok found) outcome = typed_kind after found.0 found.1 (same_bytes found.0 xsd_string) refl (inner, before, outcome)
     found_by inner before (Err kind) outcome = inr (inr (inner, before, outcome))
 
@@ -206,9 +206,9 @@ before_datatype_read : (after rest : List ℕ) → BeforeDatatype after rest →
 before_datatype_read after rest h =
     ap (kind_at after) (skip_again after (94 ∷ 94 ∷ h.0) h.1) ∙ datatype_at_again after h.0 ∙ ap datatype_at (skip_again h.0 rest h.2)
 
-datatype_read : (after datatype rest : List ℕ) → TakesDatatype after datatype rest → kind_at after (skip_blanks after) ≡ Ok (kind_of datatype, rest)
+datatype_read : (after datatype rest : List ℕ) → TakesDatatype after datatype rest → kind_at after (skip_blanks after) ≡ Ok (kind_of_datatype datatype, rest)
 datatype_read after datatype rest h =
-    before_datatype_read after (60 ∷ h.0) h.1 ∙ ap (λ (r : Result (List ℕ × List ℕ) NtKind). r >>= (λ found. Ok (kind_of found.0, found.1))) (iri_again h.0 datatype rest h.2)
+    before_datatype_read after (60 ∷ h.0) h.1 ∙ ap (λ (r : Result (List ℕ × List ℕ) NtKind). r >>= (λ found. Ok (kind_of_datatype found.0, found.1))) (iri_again h.0 datatype rest h.2)
 
 kind_again : (after : List ℕ) (kind : Kind) (rest : List ℕ) → TakesKind after kind rest → kind_at after (skip_blanks after) ≡ Ok (kind, rest)
 kind_again after Plain rest (inl h) = let plain = h.1 in
@@ -228,7 +228,7 @@ kind_fault_read after kind (inl h) = let found = h.1 in
 kind_fault_read after kind (inr (inl h)) = let found = h.1 in
     before_datatype_read after found.0 found.1 ∙ rw found.2 (ap Err (sym h.0))
 kind_fault_read after kind (inr (inr h)) =
-    before_datatype_read after (60 ∷ h.0) h.1 ∙ ap (λ (r : Result (List ℕ × List ℕ) NtKind). r >>= (λ found. Ok (kind_of found.0, found.1))) (iri_fault_read h.0 kind h.2)
+    before_datatype_read after (60 ∷ h.0) h.1 ∙ ap (λ (r : Result (List ℕ × List ℕ) NtKind). r >>= (λ found. Ok (kind_of_datatype found.0, found.1))) (iri_fault_read h.0 kind h.2)
 
 -- ---- a term of any length
 

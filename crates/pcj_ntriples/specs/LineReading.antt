@@ -92,14 +92,14 @@ abbrev pub lang_at : List ℕ → Result (Kind × List ℕ) NtKind
 lang_at characters = tag_at characters >>= (λ tag. Ok (Lang tag.0, tag.1))
 
 -- the kind of a datatype
-abbrev pub kind_of : List ℕ → Kind
-kind_of datatype = if same_bytes datatype xsd_string then Plain else Typed datatype
+abbrev pub kind_of_datatype : List ℕ → Kind
+kind_of_datatype datatype = if same_bytes datatype xsd_string then Plain else Typed datatype
 
 -- a datatype after `^^` and blanks
 abbrev pub datatype_at : List ℕ → Result (Kind × List ℕ) NtKind
 datatype_at characters =
     if begins_with 60 characters
-    then (iri_at (drop 1 characters) >>= (λ found. Ok (kind_of found.0, found.1)))
+    then (iri_at (drop 1 characters) >>= (λ found. Ok (kind_of_datatype found.0, found.1)))
     else Err ObjectExpected
 
 -- a literal's kind after its string and blanks; whole is what follows the string

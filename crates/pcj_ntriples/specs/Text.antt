@@ -16,9 +16,9 @@ closing_of enclosures.Iri = 62
 closing_of enclosures.String = 34
 
 -- what may stand there, raw or by an escape
-abbrev pub allows : Enclosure → ℕ → Bool
-allows enclosures.Iri character = is_iri_character character
-allows enclosures.String character = true
+abbrev pub allows_character : Enclosure → ℕ → Bool
+allows_character enclosures.Iri character = is_iri_character character
+allows_character enclosures.String character = true
 
 -- the fault of a line that ends inside
 abbrev pub unclosed_of : Enclosure → NtKind
@@ -87,7 +87,7 @@ IsEscaped enclosure piece = (escape : List ℕ) × (piece.written ≡ 92 ∷ esc
 
 -- raw or by an escape, and allowed
 abbrev pub IsPiece : Enclosure → Piece → Type 0
-IsPiece enclosure piece = (allows enclosure piece.character ≡ true) × (IsRaw enclosure piece ⊎ IsEscaped enclosure piece)
+IsPiece enclosure piece = (allows_character enclosure piece.character ≡ true) × (IsRaw enclosure piece ⊎ IsEscaped enclosure piece)
 
 abbrev pub written_by : List Piece → List ℕ
 written_by pieces = flat_map (λ piece. piece.written) pieces
@@ -109,11 +109,11 @@ Closes enclosure inner text rest = Within enclosure inner text (closing_of enclo
 -- what stands at the front isn't allowed there: raw, or by an escape
 abbrev pub IsForbiddenRaw : Enclosure → List ℕ → Type 0
 IsForbiddenRaw enclosure [] = ⊥
-IsForbiddenRaw enclosure (character ∷ rest) = (stands_raw enclosure character ≡ true) × (allows enclosure character ≡ false)
+IsForbiddenRaw enclosure (character ∷ rest) = (stands_raw enclosure character ≡ true) × (allows_character enclosure character ≡ false)
 
 abbrev pub IsForbiddenEscape : Enclosure → List ℕ → Type 0
 IsForbiddenEscape enclosure characters =
-    (escape rest : List ℕ) × (character : ℕ) × (characters ≡ 92 ∷ escape ++ rest) × IsEscape enclosure escape character × (allows enclosure character ≡ false)
+    (escape rest : List ℕ) × (character : ℕ) × (characters ≡ 92 ∷ escape ++ rest) × IsEscape enclosure escape character × (allows_character enclosure character ≡ false)
 
 abbrev pub HoldsForbidden : Enclosure → List ℕ → Type 0
 HoldsForbidden enclosure inner = (text rest : List ℕ) × Within enclosure inner text rest × (IsForbiddenRaw enclosure rest ⊎ IsForbiddenEscape enclosure rest)

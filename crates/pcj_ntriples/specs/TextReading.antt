@@ -5,7 +5,7 @@ use Rattle.std.specs.Str.{all_scalars}
 use Rattle.pcj_ntriples.specs.declared.kind.NtKind.{NtKind}
 use Rattle.pcj_ntriples.specs.declared.kind.NtKind.TheVariants.{IriChar, BadEscape}
 use Rattle.pcj_ntriples.specs.declared.enclosure.Enclosure.{Enclosure}
-use Rattle.pcj_ntriples.specs.Text.{closing_of, allows, unclosed_of, short_escape_of, is_hexadecimal, digits_after}
+use Rattle.pcj_ntriples.specs.Text.{closing_of, allows_character, unclosed_of, short_escape_of, is_hexadecimal, digits_after}
 
 -- n hexadecimal digits after those of number, which stay below the greatest character, and what follows
 abbrev pub digits_at : ℕ → ℕ → List ℕ → Option (ℕ × List ℕ)
@@ -39,7 +39,7 @@ with_front front (Ok found) = Ok (front ++ found.0, found.1)
 with_front front (Err kind) = Err kind
 
 abbrev pub with_character : Enclosure → ℕ → Result (List ℕ × List ℕ) NtKind → Result (List ℕ × List ℕ) NtKind
-with_character enclosure character found = if allows enclosure character then with_front (character ∷ []) found else Err IriChar
+with_character enclosure character found = if allows_character enclosure character then with_front (character ∷ []) found else Err IriChar
 
 -- what follows a backslash: the text from its escape on, where the text from n characters on is known
 abbrev pub after_escape : Enclosure → (ℕ → Result (List ℕ × List ℕ) NtKind) → ℕ → Option (ℕ × List ℕ) → Result (List ℕ × List ℕ) NtKind
@@ -56,7 +56,7 @@ text_from enclosure zero (character ∷ characters) =
     with_character enclosure character (text_from enclosure zero characters)
 
 abbrev pub allowed_at : Enclosure → ℕ → List ℕ → Result (Option ℕ × List ℕ) NtKind
-allowed_at enclosure character rest = if allows enclosure character then Ok (Some character, rest) else Err IriChar
+allowed_at enclosure character rest = if allows_character enclosure character then Ok (Some character, rest) else Err IriChar
 
 abbrev pub escaped_at : Enclosure → Option (ℕ × List ℕ) → Result (Option ℕ × List ℕ) NtKind
 escaped_at enclosure None = Err BadEscape

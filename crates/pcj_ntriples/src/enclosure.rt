@@ -1,6 +1,6 @@
 ghost use Rattle.std.specs.Prelude.{◌≡◌};
 ghost use Rattle.pcj_term.specs.Iri.{is_iri_mark};
-ghost use Rattle.pcj_ntriples.specs.Text.{closing_of, allows, short_escape, short_escape_of, unclosed_of};
+ghost use Rattle.pcj_ntriples.specs.Text.{closing_of, allows_character, short_escape, short_escape_of, unclosed_of};
 
 use crate::kind::NtKind;
 
@@ -24,7 +24,7 @@ impl Enclosure {
 
     /// Whether a character may stand there, raw or by an escape.
     pub(crate) fn allows(self, character: char) -> bool
-        ensures { result ≡ allows self character }
+        ensures { result ≡ allows_character self character }
     {
         match self {
             Enclosure::Iri => character > ' ' && !is_iri_mark(character),

@@ -1,5 +1,5 @@
 ghost use Rattle.std.specs.Prelude.{◌≡◌, ℕ, IfOk, IfErr, Ok, Err};
-ghost use Rattle.pcj_ntriples.specs.LineReading.{skip_blanks, iri_at, kind_of, datatype_at, kind_at, literal_at, any_term_at, term_at};
+ghost use Rattle.pcj_ntriples.specs.LineReading.{skip_blanks, iri_at, kind_of_datatype, datatype_at, kind_at, literal_at, any_term_at, term_at};
 ghost use Rattle.pcj_ntriples.specs.Fault.{IsFault};
 
 use crate::enclosure::Enclosure;
@@ -103,13 +103,13 @@ impl<'a> LineReader<'a> {
         if !self.take('<') {
             return Err(Fault::Wrong(NtKind::ObjectExpected));
         }
-        Ok(kind_of(self.iri(alloc)?))
+        Ok(kind_of_datatype(self.iri(alloc)?))
     }
 }
 
 /// A literal's kind by its datatype.
-fn kind_of(datatype: Bytes) -> Kind
-    ensures { result ≡ kind_of datatype }
+fn kind_of_datatype(datatype: Bytes) -> Kind
+    ensures { result ≡ kind_of_datatype datatype }
 {
     if datatype.as_slice() == b"http://www.w3.org/2001/XMLSchema#string".as_slice() {
         Kind::Plain
