@@ -31,10 +31,6 @@ onto_joined : (front : List ℕ) (character : ℕ) (o : Option (List ℕ × List
 onto_joined front character None = refl
 onto_joined front character (Some found) = ap (λ (t : List ℕ). Some (t, found.1)) (append_assoc front (character ∷ []) found.0)
 
-onto_none : (o : Option (List ℕ × List ℕ)) → onto_all [] o ≡ o
-onto_none None = refl
-onto_none (Some found) = refl
-
 tag_step : (digits some : Bool) (character : ℕ) (characters : List ℕ) → is_tag_character digits some character ≡ true → tag_from digits some (character ∷ characters) ≡ onto_tag character (tag_from (digits || nat_eq character 45) (not (nat_eq character 45)) characters)
 unfolding tag_from
 tag_step digits some character characters is = by (is_letter character || (digits && is_digit character)) (is_hyphen character) refl refl

@@ -38,14 +38,14 @@ is_eq-bytes_cmp = is_eq-slice_cmp
 pub bytes_cmp_itself : (bytes : List ℕ) → bytes_cmp bytes bytes ≡ Equal
 bytes_cmp_itself bytes = tied_itself nat_list_cmp_total bytes
 
-pub equal_bytes_are : (bytes other : List ℕ) → bytes_cmp bytes other ≡ Equal → bytes ≡ other
-equal_bytes_are bytes other equal = same_bytes_are bytes other (sym (is_eq-bytes_cmp bytes other) ∙ ap is_eq equal)
-
 pub same_bytes_compare : (bytes other : List ℕ) → (same_bytes bytes other ≡ true) ↔ (bytes_cmp bytes other ≡ Equal)
 same_bytes_compare bytes other = (
   λ same. (Equal-is (bytes_cmp bytes other)).0 (is_eq-bytes_cmp bytes other ∙ same),
   λ equal. sym (is_eq-bytes_cmp bytes other) ∙ ap is_eq equal,
 )
+
+pub equal_bytes_are : (bytes other : List ℕ) → bytes_cmp bytes other ≡ Equal → bytes ≡ other
+equal_bytes_are bytes other equal = same_bytes_are bytes other ((same_bytes_compare bytes other).1 equal)
 
 pub less_is : (order : Ordering) → is_lt order ≡ true → order ≡ Less
 less_is Less e = refl

@@ -14,19 +14,3 @@ starts_more (byte ∷ old) (first ∷ new) more starts =
     let rest : StartsWith new old = cc in
     let later = starts_more old new more rest in
     cc
-
-pub starts_through : (old mid new : List ℕ) → StartsWith mid old → StartsWith new mid → StartsWith new old
-starts_through [] mid new starts next = refl
-starts_through (byte ∷ old) [] new starts next = absurd cc
-starts_through (byte ∷ old) (first ∷ mid) [] starts next = absurd cc
-starts_through (byte ∷ old) (first ∷ mid) (other ∷ new) starts next =
-    let same : first ≡ byte = cc in
-    let also : other ≡ first = cc in
-    let rest : StartsWith mid old = cc in
-    let after : StartsWith new mid = cc in
-    let later = starts_through old mid new rest after in
-    cc
-
--- bytes with more behind them begin as they did
-pub starts_with_more : (old more : List ℕ) → StartsWith (old ++ more) old
-starts_with_more old more = starts_more old old more (starts_itself old)
