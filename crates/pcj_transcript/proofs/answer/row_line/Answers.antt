@@ -8,7 +8,7 @@ pub loop-at-preserved : goal.loop-at-preserved
 loop-at-preserved c =
     let within : c.loop-at.at < length c.args.row.now = omega arith in
     let item = c.index-row-at.result in
-    let written = c.in_ok-push_term.ensures {u = tt} in
+    let written = (c.in_ok-push_term.ensures {u = tt}).ok in
     elim c.if-at-gt0.branch [
       | then-at-gt0+in_ok-push w ↦
           written ∙ ap (λ (l : List ℕ). l ++ printed item.now) (w.line-is ∙ (w.in_ok-push.ensures {u = tt}).ok)
