@@ -1,16 +1,14 @@
 -- The clock's row, and how an oracle stands to it (Percolator, section 2.3).
-use Rattle.std.specs.Prelude.{◌≡◌, ℕ, ◌+◌, ◌^◌, ◌<◌, ◌≤◌, min, [], Option, Some, None}
+use Rattle.std.specs.Prelude.{◌≡◌, ℕ, ◌+◌, ◌^◌, ◌<◌, ◌≤◌, min, [], ◌∷◌, Option, Some, None}
 use Rattle.pcj_table.specs.declared.plain.Plain.{Plain}
 use Rattle.pcj_table.specs.declared.update.Update.TheVariants.{SetPlain}
 use Rattle.pcj_table.specs.Row.{updated}
 use Rattle.pcj_table.specs.Table.{Table, Key, row_at, with_row}
-use Rattle.pcj_encode.specs.declared.key_name.KeyName.TheVariants.{Clock}
-use Rattle.pcj_encode.specs.Name.{key_of}
 use Rattle.pcj_oracle.specs.declared.block.Block.{Block}
 
--- the key of the clock's row
+-- the key of the clock's row: the letter `z` and the byte 0
 abbrev pub clock_key : Key
-clock_key = key_of Clock
+clock_key = 122 ∷ 0 ∷ []
 
 -- the first number that was never granted, by the plain value of the clock's row
 abbrev pub clock_number : Option Plain → ℕ

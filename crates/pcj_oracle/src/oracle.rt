@@ -6,7 +6,7 @@ ghost use Rattle.pcj_oracle.specs.Calls.{reads, stores, MakesCalls, HasDrawCalls
 
 use crate::OracleError;
 use crate::block::Block;
-use crate::clock::{END, clock_key, limit_after, raise_number, stored_number};
+use crate::clock::{END, limit_after, raise_number, stored_number};
 use pcj_table::{RowTable, TableError};
 use std::alloc::Global;
 use std::marker::Model;
@@ -80,8 +80,7 @@ impl Oracle {
         if let Some(block) = self.block {
             return Ok(block);
         }
-        let key = clock_key(self.alloc)?;
-        let number = stored_number(table, key.as_slice())?;
+        let number = stored_number(table)?;
         let block = Block {
             next: number,
             limit: number,
@@ -107,8 +106,7 @@ impl Oracle {
             return Ok(block.limit);
         }
         let limit = limit_after(block.limit);
-        let key = clock_key(self.alloc)?;
-        if !raise_number(self.alloc, table, key.as_slice(), limit)? {
+        if !raise_number(self.alloc, table, limit)? {
             unreachable!();
         }
         Ok(limit)

@@ -3,7 +3,7 @@ ghost use Rattle.pcj_memtable.specs.Entries.{table_of};
 ghost use Rattle.pcj_oracle.specs.Clock.{IsClock, stored_number};
 
 use super::*;
-use crate::clock::{clock_key, raise_number};
+use crate::clock::raise_number;
 use pcj_memtable::MemTable;
 use pcj_table::{RowTable, TableError};
 use pcj_term::{Items, Memory, TryClone};
@@ -30,8 +30,7 @@ fn table_at(alloc: Global, number: u64) -> Result<MemTable, TableError>
     ensures { IfOk result (λ table. stored_number (table_of table.rows) ≡ number) }
 {
     let mut table = empty_table(alloc, &[])?;
-    let key = clock_key(alloc)?;
-    if !raise_number(alloc, &mut table, key.as_slice(), number)? {
+    if !raise_number(alloc, &mut table, number)? {
         unreachable!();
     }
     Ok(table)

@@ -17,14 +17,19 @@ use Rattle.pcj_encode.proofs.Names.{names_one_row, kinds_are_apart}
 use Rattle.pcj_oracle.specs.Clock.{clock_key}
 use Rattle.pcj_rowtables.specs.Rows.{triple_key}
 use Rattle.pcj_sound.specs.Fit.{AreLoadsBelow, IsTripleKey}
+use Rattle.pcj_sound.specs.Laws.{ClockKeyIsEncoded}
 use Rattle.pcj_sound.specs.Load.{is_one_of, load_keys}
 use Rattle.pcj_term.proofs.ListLemmas.{nothing_in, first_or_later, first_there, later_there, at_recursion, none_passes, none_before}
 
+-- the clock's row has the key of its name
+pub clock_is_encoded : ClockKeyIsEncoded
+clock_is_encoded = refl
+
 -- a triple's key isn't the clock's
 pub not_clock : (order : Order) (triple : Triple) → triple_key order triple ≢ clock_key
-not_clock Spo triple e = absurd (let kind = kinds_are_apart (row.Triple Spo triple) row.Clock e in cc)
-not_clock Pos triple e = absurd (let kind = kinds_are_apart (row.Triple Pos triple) row.Clock e in cc)
-not_clock Osp triple e = absurd (let kind = kinds_are_apart (row.Triple Osp triple) row.Clock e in cc)
+not_clock Spo triple e = absurd (let kind = kinds_are_apart (row.Triple Spo triple) row.Clock (e ∙ clock_is_encoded) in cc)
+not_clock Pos triple e = absurd (let kind = kinds_are_apart (row.Triple Pos triple) row.Clock (e ∙ clock_is_encoded) in cc)
+not_clock Osp triple e = absurd (let kind = kinds_are_apart (row.Triple Osp triple) row.Clock (e ∙ clock_is_encoded) in cc)
 
 -- one key is of one triple in one order
 pub one_row : (order order' : Order) (triple other : Triple) → IsTriple triple → IsTriple other → triple_key order triple ≡ triple_key order' other → (order ≡ order') × (triple ≡ other)

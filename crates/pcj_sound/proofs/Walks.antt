@@ -27,6 +27,7 @@ use Rattle.pcj_sound.specs.Fit.{IsPutBelow}
 use Rattle.pcj_sound.specs.Load.{Settled}
 use Rattle.pcj_sound.specs.Laws.{NoKeyIsEmpty, SettledHasNoCommittedLocks}
 use Rattle.pcj_sound.specs.Walk.{WalksSeeTriples}
+use Rattle.pcj_sound.proofs.Keys.{clock_is_encoded}
 use Rattle.pcj_sound.proofs.Held.{triple_row, newest_there, unlocked_stands}
 use Rattle.pcj_sound.proofs.Told.{reads_tell}
 
@@ -80,7 +81,7 @@ spo_name order triple valid holds =
     let same : row.Triple order triple ≡ row.Triple Spo known.0 = known.1 in cc
 
 clock_outside : Holds (range_of kind.triples) clock_key → ⊥
-clock_outside holds = let known = (hold_names kind.triples row.Clock tt tt).1 holds in absurd (let same : row.Clock ≡ row.Triple Spo known.0 = known.1 in cc)
+clock_outside holds = let known = (hold_names kind.triples row.Clock tt tt).1 (subst (Holds (range_of kind.triples)) clock_is_encoded holds) in absurd (let same : row.Clock ≡ row.Triple Spo known.0 = known.1 in cc)
 
 shown_some : (r : Row) → has_nothing r ≡ false → IsSome (shown r)
 shown_some r some = subst (λ b. IsSome (cond b None (Some r))) (sym some) refl

@@ -6,7 +6,8 @@ use Rattle.pcj_table.specs.Row.{no_row}
 use Rattle.pcj_table.specs.Table.{Key, Table, row_at, shown}
 use Rattle.pcj_encode.specs.declared.order.Order.{Order}
 use Rattle.pcj_encode.specs.declared.order.Order.TheVariants.{Spo}
-use Rattle.pcj_encode.specs.Name.{IsTriple}
+use Rattle.pcj_encode.specs.declared.key_name.KeyName.TheVariants.{Clock}
+use Rattle.pcj_encode.specs.Name.{IsTriple, key_of}
 use Rattle.pcj_oracle.specs.Clock.{clock_key, stored_number}
 use Rattle.pcj_oracle.specs.Draw.{table_after}
 use Rattle.pcj_rowtables.specs.Rows.{triple_key}
@@ -29,6 +30,10 @@ abbrev pub FitBelowClock : Type 0
 FitBelowClock = (next : ℕ) (table : Table) → 1 ≤ stored_number table → stored_number table ≤ 2 ^ 48 → next ≤ stored_number table → Fit next (row_at table) → FitTable table
 
 -- ---- keys
+
+-- the key under which the oracle keeps the clock's row is that of its name
+abbrev pub ClockKeyIsEncoded : Type 0
+ClockKeyIsEncoded = clock_key ≡ key_of Clock
 
 -- no key is empty, so a walk from the empty key passes every row
 abbrev pub NoKeyIsEmpty : Type 0

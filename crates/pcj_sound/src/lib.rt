@@ -19,6 +19,6 @@ pub use load::{
     commits_add_triples, loads_add_what_is_absent, loads_are_taken, prewrites_keep_triples,
 };
 pub use table::{
-    draws_keep_tables_fit, empty_tables_are_settled, higher_numbers_keep_tables_fit,
-    rows_tell_of_triples, walks_meet_triples,
+    clock_key_is_encoded, draws_keep_tables_fit, empty_tables_are_settled,
+    higher_numbers_keep_tables_fit, rows_tell_of_triples, walks_meet_triples,
 };

@@ -1,5 +1,10 @@
-ghost use Rattle.pcj_sound.specs.Laws.{EmptyIsSettled, FitGrows, SettledGrows, FitBelowClock, ClockIsFit, DrawsAreDrawn, DrawsKeepReadings, DrawsKeepFit, DrawsKeepSettled, AbsentHasNothing, ReadsTell, SameTriples, SettledHasNoCommittedLocks, NoKeyIsEmpty};
+ghost use Rattle.pcj_sound.specs.Laws.{ClockKeyIsEncoded, EmptyIsSettled, FitGrows, SettledGrows, FitBelowClock, ClockIsFit, DrawsAreDrawn, DrawsKeepReadings, DrawsKeepFit, DrawsKeepSettled, AbsentHasNothing, ReadsTell, SameTriples, SettledHasNoCommittedLocks, NoKeyIsEmpty};
 ghost use Rattle.pcj_sound.specs.Walk.{WalksGoOn, WalksEnd, WalksSeeTriples, WalksMeetTriples};
+
+/// The oracle's row has the key of the clock's name, so it is in no range of another kind.
+pub fn clock_key_is_encoded()
+    ensures { ClockKeyIsEncoded }
+{}
 
 /// A table that has nothing but the clock's row is fit for every number, and has no triple.
 pub fn empty_tables_are_settled()
