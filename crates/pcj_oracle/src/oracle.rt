@@ -1,7 +1,8 @@
-ghost use Rattle.std.specs.Prelude.{◌≡◌, ◌+◌, ◌<◌, ◌≤◌, ◌^◌, Some, None, IfOk, OnOk, OnErr};
+ghost use Rattle.std.specs.Prelude.{◌≡◌, ◌+◌, ◌<◌, ◌≤◌, ◌^◌, Some, None, IfOk, OnOk, OnErr, IsErrOf};
 ghost use Rattle.pcj_table.specs.Calls.{HasTableCause};
 ghost use Rattle.pcj_oracle.specs.Clock.{IsClock, IsBlock, next_number, stored_number, attached};
-ghost use Rattle.pcj_oracle.specs.Draw.{Answers, Grants, Keeps, HasDrawCause, table_after};
+ghost use Rattle.pcj_oracle.specs.declared.error.OracleError.TheVariants.{Spent};
+ghost use Rattle.pcj_oracle.specs.Draw.{IsNumber, Grants, Keeps, HasDrawCause, table_after};
 ghost use Rattle.pcj_oracle.specs.Calls.{reads, stores, MakesCalls, HasDrawCalls};
 
 use crate::OracleError;
@@ -45,14 +46,19 @@ impl Oracle {
         self.block = None;
     }
 
-    /// Grants the next number. The clock's row is read where the oracle isn't attached, and is raised by a block
-    /// where no number is left. After an error the next number is the same.
+    /// Grants the next number, or answers `Spent` where 2^48 would be drawn. The clock's row is read where the oracle
+    /// isn't attached, and is raised by a block where no number is left. After an error the next number is the same.
     pub fn draw<T: RowTable>(&mut self, table: &mut T) -> Result<u64, OracleError>
         requires { IsClock self.old (T.rows table.old) }
-        ensures clock { IsClock self.new (T.rows table.new) }
-        ensures answer { Answers (next_number self.old (T.rows table.old)) result }
-        ensures granted { IfOk result (λ number. Grants self.old (T.rows table.old) number self.new (T.rows table.new)) }
+
+        // The next number, which is below 2^48, or none where it is 2^48. After any error nothing has changed.
+        ensures granted { IfOk result (λ number. IsNumber number self.old (T.rows table.old) self.new (T.rows table.new)) }
+        ensures spent { IsErrOf result Spent → next_number self.old (T.rows table.old) ≡ 2 ^ 48 }
         ensures kept { OnErr result (Keeps self.old (T.rows table.old) self.new (T.rows table.new)) }
+
+        // The oracle's own numbers, and the calls of the table.
+        ensures clock { IsClock self.new (T.rows table.new) }
+        ensures block { IfOk result (λ number. Grants self.old (T.rows table.old) number self.new (T.rows table.new)) }
         ensures cause { HasDrawCause (T.failures table.old) (T.failures table.new) result }
         ensures calls { HasDrawCalls self.old (T.rows table.old) (T.made table.old) (T.made table.new) result self.new }
     {
