@@ -1,8 +1,7 @@
 -- What is read of a script.
 use Rattle.std.specs.Prelude.{◌≡◌, ℕ, List, take, Option, Some, None}
 use Rattle.pcj_replay.specs.declared.input.Input.{Input}
-use Rattle.pcj_transcript.specs.declared.script.TheConstants.{SCRIPT_LIMIT}
-use Rattle.pcj_transcript.specs.Script.{is_too_long}
+use Rattle.pcj_transcript.specs.Script.{is_too_long, script_limit}
 
 -- the source tells that these bytes are left, or tells nothing
 abbrev pub Told : Option (List ℕ) → List ℕ → Type 0
@@ -11,7 +10,7 @@ Told (Some left) bytes = left ≡ bytes
 
 -- the script's bytes up to the limit, and whether there are more
 pub record Holds (script : List ℕ) (input : Input) : Type 0 where
-  pub bytes : input.bytes.items ≡ take SCRIPT_LIMIT script
+  pub bytes : input.bytes.items ≡ take script_limit script
   pub too_long : input.too_long ≡ is_too_long script
 
 -- what a source had left was read as a script

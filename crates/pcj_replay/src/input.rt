@@ -5,8 +5,11 @@ ghost use Rattle.pcj_replay.specs.Stop.{HasSourceCause};
 use crate::stop::Stop;
 use pcj_io::Source;
 use pcj_term::Memory;
-use pcj_transcript::{SCRIPT_LIMIT, split_at_byte};
+use pcj_transcript::split_at_byte;
 use std::alloc::Global;
+
+/// The most bytes that a script may have: 64 MiB.
+pub(crate) const SCRIPT_LIMIT: usize = 67_108_864;
 
 /// How many bytes are asked for at a time.
 const PIECE: usize = 16_384;

@@ -6,10 +6,10 @@ mod documents;
 mod tables;
 
 use super::*;
+use crate::input::SCRIPT_LIMIT;
 use pcj_io::{MemSink, MemSource, StdSink, StdSource};
 use pcj_memtable::MemTable;
 use pcj_term::Items;
-use pcj_transcript::SCRIPT_LIMIT;
 use std::alloc::{AllocError, Global};
 use std::io::Cursor;
 use std::test::Fail;

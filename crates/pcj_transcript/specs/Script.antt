@@ -6,7 +6,6 @@ use Rattle.pcj_lines.specs.Lines.{ended, client_name}
 use Rattle.pcj_transcript.specs.Name.{words_of}
 use Rattle.pcj_transcript.specs.declared.command.Command.{Command}
 use Rattle.pcj_transcript.specs.declared.command.Command.TheVariants.{Load, Register, Answers}
-use Rattle.pcj_transcript.specs.declared.script.TheConstants.{SCRIPT_LIMIT}
 
 -- ---- lines
 
@@ -16,13 +15,17 @@ lines_of bytes = slice_split (λ byte. byte == 10) bytes
 abbrev pub all_but_last : List (List ℕ) → List (List ℕ)
 all_but_last lines = take (length lines - 1) lines
 
+-- the most bytes that a script may have: 64 MiB
+abbrev pub script_limit : ℕ
+script_limit = 67108864
+
 -- whether a byte stands past the limit
 abbrev pub is_too_long : List ℕ → Bool
-is_too_long bytes = nat_lt SCRIPT_LIMIT (length bytes)
+is_too_long bytes = nat_lt script_limit (length bytes)
 
 -- the lines of a script, up to that of the first byte past the limit
 abbrev pub readable_lines : List ℕ → List (List ℕ)
-readable_lines bytes = if is_too_long bytes then all_but_last (lines_of (take SCRIPT_LIMIT bytes)) else lines_of (take SCRIPT_LIMIT bytes)
+readable_lines bytes = if is_too_long bytes then all_but_last (lines_of (take script_limit bytes)) else lines_of (take script_limit bytes)
 
 -- ---- commands
 

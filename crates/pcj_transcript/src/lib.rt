@@ -25,7 +25,7 @@ pub use command::Command;
 pub use law::{one_script, one_transcript};
 pub use pattern::Pattern;
 pub use query::Query;
-pub use script::{SCRIPT_LIMIT, Script};
+pub use script::Script;
 pub use slot::Slot;
 pub use split::split_at_byte;
 

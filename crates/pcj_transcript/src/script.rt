@@ -6,9 +6,6 @@ use crate::front::Front;
 use pcj_term::Memory;
 use std::alloc::Global;
 
-/// The most bytes that a script may have: 64 MiB.
-pub const SCRIPT_LIMIT: usize = 67_108_864;
-
 /// The commands of a script, up to its end or to the first line that is refused.
 #[derive(Drop)]
 pub struct Script {
@@ -26,9 +23,8 @@ impl Script {
     ///
     /// The first line that begins no command is refused, and so is that of a command whose text has no `end`.
     ///
-    /// A script is too long where it has more bytes than `SCRIPT_LIMIT`. `lines` are then those before the line of
-    /// the first byte past the limit. That line is refused where none of them is, or where a text has no `end`
-    /// before it.
+    /// A script is too long where it has more than 67,108,864 bytes. `lines` are then those before the line of the
+    /// first byte past the limit. That line is refused where none of them is, or where a text has no `end` before it.
     ///
     /// `Memory` where there is none left for the commands.
     pub fn cut(alloc: Global, lines: &[&[u8]], too_long: bool) -> Result<Script, Memory>

@@ -1,5 +1,5 @@
 use Rattle.std.proofs.Common.{◌+◌, ◌-◌, vec_len}
-use Rattle.pcj_transcript.specs.declared.script.TheConstants.{SCRIPT_LIMIT}
+use Rattle.pcj_replay.specs.declared.input.TheConstants.{SCRIPT_LIMIT}
 use Rattle.pcj_replay.proofs.InputLaws.{HasGiven}
 use Rattle.pcj_replay.proofs.input.Input.read.Given as goal
 
