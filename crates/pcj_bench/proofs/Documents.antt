@@ -1,7 +1,7 @@
 -- A document that is read under a number that was drawn may be loaded.
 use Rattle.std.proofs.Common.{◌≡◌, ◌≤◌, ◌+◌, ℕ, List, Option, sym, subst, ◌∙◌, arith}
+use Rattle.std.specs.List.{IsDistinct}
 use Rattle.std.proofs.lemmas.List.Elements.{All-weaker}
-use Rattle.std.specs.List.{All, IsDistinct}
 use Rattle.pcj_term.specs.declared.term.Term.{Term}
 use Rattle.pcj_term.specs.declared.term.Term.TheVariants as terms
 use Rattle.pcj_term.specs.declared.triple.Triple.{Triple}
@@ -13,9 +13,9 @@ use Rattle.pcj_table.specs.Table.{Table}
 use Rattle.pcj_encode.specs.Name.{IsTriple}
 use Rattle.pcj_oracle.specs.declared.block.Block.{Block}
 use Rattle.pcj_oracle.specs.Clock.{IsClock}
+use Rattle.pcj_oracle.specs.Draw.{IsNumber}
 use Rattle.pcj_sound.specs.Fit.{IsLoadBelow, AreLoadsBelow}
 use Rattle.pcj_sound.proofs.Adding.{distinct_are_once}
-use Rattle.pcj_load.specs.Drawing.{IsNumber}
 use Rattle.pcj_load.specs.Transaction.{Rests, Starts}
 use Rattle.pcj_load.proofs.TransactionLaws.{draw_starts}
 

@@ -2,10 +2,10 @@ ghost use Rattle.std.specs.Prelude.{None, OnOk};
 ghost use Rattle.pcj_load.specs.Transaction.{IsAtRest};
 
 use crate::failure::Failure;
-use pcj_load::{draw, load_triples};
+use pcj_load::load_triples;
 use pcj_memtable::MemTable;
 use pcj_ntriples::read_document;
-use pcj_oracle::Oracle;
+use pcj_oracle::{Oracle, OracleError};
 use pcj_rowtables::triple_rows;
 use pcj_table::{Cond, Plain, RowTable, Update};
 use pcj_term::{Bytes, Items};
@@ -23,6 +23,15 @@ pub struct LoadTimes {
     calls: u64,
     loads: Duration,
     insertions: Duration,
+}
+
+impl From<OracleError> for Failure {
+    fn from(error: OracleError) -> Self {
+        match error {
+            OracleError::Failed | OracleError::Spent => Failure::System,
+            OracleError::Memory => Failure::Memory,
+        }
+    }
 }
 
 impl fmt::Display for LoadTimes {
@@ -96,9 +105,7 @@ fn load_document<T: RowTable>(
     requires { IsAtRest oracle.old (T.rows table.old) }
     ensures { OnOk result (IsAtRest oracle.new (T.rows table.new)) }
 {
-    let Some(start) = draw(oracle, table)? else {
-        return Err(Failure::System);
-    };
+    let start = oracle.draw(table)?;
     let triples = read_document(alloc, text, start)?;
     match load_triples(alloc, oracle, table, triples.as_slice(), start)? {
         Some(_commit) => Ok(()),

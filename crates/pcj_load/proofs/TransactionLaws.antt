@@ -9,6 +9,7 @@ use Rattle.pcj_table.specs.Table.{Key, Table, row_at}
 use Rattle.pcj_encode.specs.Name.{IsTriple}
 use Rattle.pcj_oracle.specs.declared.block.Block.{Block}
 use Rattle.pcj_oracle.specs.Clock.{IsClock, IsClockAt, clock_key, clock_number, stored_number, next_number, next_at}
+use Rattle.pcj_oracle.specs.Draw.{IsNumber}
 use Rattle.pcj_mvcc.specs.Reading.{Rows}
 use Rattle.pcj_sound.specs.Triples.{HasTriples}
 use Rattle.pcj_sound.specs.Fit.{Fit, FitTable, AreLoadsBelow}
@@ -21,7 +22,6 @@ use Rattle.pcj_sound.proofs.Drawn.{fit_grows, fit_below_clock, clock_is_fit, dra
 use Rattle.pcj_sound.proofs.Prewrites.{prewrites_keep_triples, draws_pass_locks, draws_keep_loads}
 use Rattle.pcj_sound.proofs.Commits.{clock_stays, commits_begin, commits_add_triples, loads_end}
 use Rattle.pcj_load.specs.declared.load.Load.{Load}
-use Rattle.pcj_load.specs.Drawing.{IsNumber}
 use Rattle.pcj_load.specs.Loading.{Begins, primary_of, Locks, LocksPart, IsLocked, Commits, CommitsPart}
 use Rattle.pcj_load.specs.Transaction.{Rests, IsAtRest, Starts, IsLoaded, IsSpent, HasNoneOrAll}
 

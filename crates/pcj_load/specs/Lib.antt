@@ -1,4 +1,3 @@
-pub mod Drawing
 pub mod Loading
 pub mod Transaction
 pub mod Walking

@@ -93,8 +93,8 @@ fn load<T: RowTable>(
     requires once { IsDistinct same_triple triples.now }
     ensures { OnOk result (IsAtRest oracle.new (T.rows table.new)) }
 {
-    let Some(start) = draw(oracle, table)? else {
-        return Err(TableError::Memory);
+    let Ok(start) = oracle.draw(table) else {
+        return Err(TableError::Failed);
     };
     let before = table.calls();
     let Some(commit) = load_triples(alloc, oracle, table, triples.as_slice(), start)? else {
@@ -198,9 +198,7 @@ fn no_load_begins_after_the_last_number(rt: HostRuntime) -> Result<(), Fail> {
     let mut table = empty_table(alloc, &[])?;
     let mut oracle = Oracle::new(alloc);
     set_next(alloc, &mut table, 281_474_976_710_655)?;
-    let Some(start) = draw(&mut oracle, &mut table)? else {
-        panic!(rt; "the last number was not drawn");
-    };
+    let start = oracle.draw(&mut table)?;
     assert_eq!(rt; start, 281_474_976_710_655);
     let loaded = load_triples(alloc, &mut oracle, &mut table, &[], start)?;
     assert_eq!(rt; loaded, None);

@@ -4,7 +4,6 @@ ghost use Rattle.pcj_table.specs.Calls.{HasTableCause};
 ghost use Rattle.pcj_table.specs.Table.{row_at};
 ghost use Rattle.pcj_oracle.specs.Clock.{IsClock};
 ghost use Rattle.pcj_sound.specs.Fit.{FitTable};
-ghost use Rattle.pcj_load.specs.Drawing.{Draws};
 ghost use Rattle.pcj_load.specs.Transaction.{Starts, CanStart, LoadLeaves, HasNoneOrAll};
 
 use crate::load::Load;
@@ -42,29 +41,12 @@ pub fn load_triples<T: RowTable>(
 {
     let load = Load::of(alloc, table, triples, start)?;
     load.prewrite(alloc, table)?;
-    let Some(commit) = draw(oracle, table)? else {
-        return Ok(None);
+    let commit = match oracle.draw(table) {
+        Ok(commit) => commit,
+        Err(OracleError::Spent) => return Ok(None),
+        Err(OracleError::Failed) => return Err(TableError::Failed),
+        Err(OracleError::Memory) => return Err(TableError::Memory),
     };
     load.commit(alloc, table, commit)?;
     Ok(Some(commit))
-}
-
-/// Draws the next number, a timestamp from 1 to 2^48 - 1 (Percolator, section 2.3). There is none where 2^48 would be
-/// drawn.
-///
-/// It makes one `get` where the oracle isn't attached to the table, and one `mutate` where a block of 1,000 numbers
-/// begins. It answers `Failed` where one of them fails, and `Memory` where there is no room for the clock's row. After
-/// either the next number is the same.
-pub fn draw<T: RowTable>(oracle: &mut Oracle, table: &mut T) -> Result<Option<u64>, TableError>
-    requires { IsClock oracle.old (T.rows table.old) }
-    ensures clock { IsClock oracle.new (T.rows table.new) }
-    ensures drawn { Draws oracle.old (T.rows table.old) oracle.new (T.rows table.new) result }
-    ensures cause { HasTableCause (T.failures table.old) (T.failures table.new) result }
-{
-    match oracle.draw(table) {
-        Ok(number) => Ok(Some(number)),
-        Err(OracleError::Spent) => Ok(None),
-        Err(OracleError::Failed) => Err(TableError::Failed),
-        Err(OracleError::Memory) => Err(TableError::Memory),
-    }
 }

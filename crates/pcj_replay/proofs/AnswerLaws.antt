@@ -4,6 +4,9 @@ use Rattle.std.specs.Prelude.{IsErrAnd}
 use Rattle.pcj_io.specs.declared.sink.SinkError.{SinkError}
 use Rattle.pcj_io.specs.declared.sink.SinkError.TheVariants as sink_errors
 use Rattle.pcj_io.specs.Sink.{Appends, AppendsPrefix}
+use Rattle.pcj_io.proofs.Appended.{Appends-nil}
+use Rattle.pcj_table.specs.declared.error.TableError.{TableError}
+use Rattle.pcj_table.specs.declared.error.TableError.TheVariants as table_errors
 use Rattle.pcj_table.specs.Table.{Table}
 use Rattle.pcj_transcript.specs.declared.command.Command.{Command}
 use Rattle.pcj_transcript.specs.Transcript.{State}
@@ -11,8 +14,8 @@ use Rattle.pcj_replay.specs.declared.response.Response.TheVariants.{Whole, Spent
 use Rattle.pcj_replay.specs.declared.session.Session.{Session}
 use Rattle.pcj_replay.specs.declared.stop.Stop.{Stop}
 use Rattle.pcj_replay.specs.declared.stop.Stop.TheVariants as stops
-use Rattle.pcj_replay.specs.Stop.{stop_of}
-use Rattle.pcj_replay.specs.Session.{Answered}
+use Rattle.pcj_replay.specs.Stop.{stop_of, table_stop}
+use Rattle.pcj_replay.specs.Session.{Answered, IsBrokenOff}
 use Rattle.pcj_replay.specs.Run.{WritesReply, WritesSpent, WritesPart, WriteStops}
 
 -- what holds of the error that a call hands on
@@ -46,3 +49,12 @@ pub spent_stops : (state : State) (command : Command) (session : Session) (table
 spent_stops state command session table old new text bytes error stop answered is written same =
     subst (WriteStops state command session table old new) (sym same) (write_stops state command session table old new error
     (inr (record { text = text; spent = answered.0; keeps = answered.1; written = subst (AppendsPrefix old new) is written })))
+
+-- the session's call ended in an error, and nothing was written
+pub broken_stops : (state : State) (command : Command) (session : Session) (table : Table) (taken : Option (List ℕ)) (error : TableError) (stop : Stop) →
+    IsBrokenOff state command table → stop ≡ table_stop error → WriteStops state command session table taken taken stop
+broken_stops state command session table taken error stop leaves same = subst (WriteStops state command session table taken taken) (sym same) (by error)
+  where
+    by : (error : TableError) → WriteStops state command session table taken taken (table_stop error)
+    by table_errors.Failed = (Appends-nil taken, leaves)
+    by table_errors.Memory = inl (Appends-nil taken, leaves)

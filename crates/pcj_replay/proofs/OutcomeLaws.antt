@@ -91,9 +91,9 @@ pub replayed : (left old new : Option (List ℕ)) (before after : Table) (read :
 replayed left old new before after read (Ok outcome) reads done cut = concluded left old new before after read.commands.items read.refused outcome reads done
 replayed left old new before after read (Err stops.SourceFault) reads done cut = absurd cut
 replayed left old new before after read (Err stops.SinkFault) reads done cut = interrupted (stored_number before) left old new after read.commands.items read.refused reads cut
-replayed left old new before after read (Err stops.TableFault) reads done cut = record { commands = read.commands.items; refused = read.refused; reads = reads; printed = cut.0; fit = cut.1 }
+replayed left old new before after read (Err stops.TableFault) reads done cut = record { commands = read.commands.items; refused = read.refused; reads = reads; printed = cut }
 replayed left old new before after read (Err stops.Memory) reads done (inl cut) =
-    inr (inl (record { commands = read.commands.items; refused = read.refused; reads = reads; printed = cut.0; fit = cut.1 }))
+    inr (inl (record { commands = read.commands.items; refused = read.refused; reads = reads; printed = cut }))
 replayed left old new before after read (Err stops.Memory) reads done (inr cut) = inr (inr (interrupted (stored_number before) left old new after read.commands.items read.refused reads cut))
 
 -- ---- the table
@@ -116,10 +116,10 @@ replays_fit left old new before after Refused fresh r = r.printed.keeps.fit
 replays_fit left old new before after SourceFault fresh r = same_fit before after fresh r.1
 replays_fit left old new before after SinkFault fresh r = cut_fit (stored_number before) r.commands r.refused old new after r.printed
 replays_fit left old new before after OutOfMemory fresh (inl r) = same_fit before after fresh r.1
-replays_fit left old new before after OutOfMemory fresh (inr (inl r)) = r.fit
+replays_fit left old new before after OutOfMemory fresh (inr (inl r)) = r.printed.leaves.fit
 replays_fit left old new before after OutOfMemory fresh (inr (inr r)) = cut_fit (stored_number before) r.commands r.refused old new after r.printed
 replays_fit left old new before after Spent fresh r = r.printed.keeps.fit
-replays_fit left old new before after TableFault fresh r = r.fit
+replays_fit left old new before after TableFault fresh r = r.printed.leaves.fit
 
 -- ---- causes
 

@@ -14,7 +14,7 @@ use Rattle.pcj_replay.specs.declared.run.Ran.TheVariants as ran
 use Rattle.pcj_replay.specs.declared.session.Session.{Session}
 use Rattle.pcj_replay.specs.declared.stop.Stop.{Stop}
 use Rattle.pcj_replay.specs.declared.stop.Stop.TheVariants as stops
-use Rattle.pcj_replay.specs.Session.{Stands, IsLeftWith}
+use Rattle.pcj_replay.specs.Session.{Stands, IsLeftWith, IsBrokenOff}
 use Rattle.pcj_replay.specs.Run.{PrintsAll, PrintsSpent, PrintsFront, CutsWrite, RunStops, WritesReply, WritesSpent, WritesPart, WriteStops}
 use Rattle.pcj_replay.proofs.SessionLaws.{rests_keep}
 
@@ -138,18 +138,21 @@ run_spent commands at command session start table later old mid new before now f
 -- ---- a run that stops
 
 -- before a reply
-stops_before : (commands : List Command) (at : ℕ) (session : Session) (start table : Table) (old mid new : Option (List ℕ)) (before now failures failures' : ℕ) →
-    RunsUpTo commands at session start table old mid before now failures failures' → Appends mid new [] → PrintsFront (stored_number start) commands old new
-stops_before commands at session start table old mid new before now failures failures' so_far nothing =
+stops_before : (commands : List Command) (at : ℕ) (command : Command) (session : Session) (start table later : Table) (old mid new : Option (List ℕ)) (before now failures failures' : ℕ) →
+    at < length commands → command ≡ slice_index_or commands at command → (so_far : RunsUpTo commands at session start table old mid before now failures failures') →
+    Appends mid new [] × IsBrokenOff so_far.state command later → PrintsFront (stored_number start) commands old new later
+stops_before commands at command session start table later old mid new before now failures failures' within is so_far (nothing, leaves) =
     let below = stands_below so_far.state session table so_far.stands in
     record {
       before = take at commands;
-      after = drop at commands;
-      split = sym (take-append-drop at commands);
+      command = command;
+      after = drop (at + 1) commands;
+      split = split_at commands at command within is;
       text = printed so_far.ran.replies;
       end = so_far.state;
       transcript = transcript_of (stored_number start) (take at commands) so_far.state old mid so_far.ran below;
       written = subst (Appends old new) (append-nil (printed so_far.ran.replies)) (Appends-append old mid new (printed so_far.ran.replies) [] so_far.ran.written nothing);
+      leaves = leaves;
     }
 
 -- within a reply, or within what comes before 2^48 would be drawn
@@ -192,8 +195,8 @@ run_stops commands at command session after start table later old mid new before
 run_stops commands at command session after start table later old mid new before now failures failures' stops.SinkFault within is so_far w =
     stops_within commands at command session after start table later old mid new before now failures failures' within is so_far w
 run_stops commands at command session after start table later old mid new before now failures failures' stops.TableFault within is so_far w =
-    (stops_before commands at session start table old mid new before now failures failures' so_far w.0, w.1)
+    stops_before commands at command session start table later old mid new before now failures failures' within is so_far w
 run_stops commands at command session after start table later old mid new before now failures failures' stops.Memory within is so_far (inl w) =
-    inl (stops_before commands at session start table old mid new before now failures failures' so_far w.0, w.1)
+    inl (stops_before commands at command session start table later old mid new before now failures failures' within is so_far w)
 run_stops commands at command session after start table later old mid new before now failures failures' stops.Memory within is so_far (inr w) =
     inr (stops_within commands at command session after start table later old mid new before now failures failures' within is so_far w)

@@ -1,6 +1,7 @@
 -- Commands over a table.
 use Rattle.std.proofs.Common.{◌≡◌, ◌≤◌, ◌+◌, ◌-◌, ◌^◌, ℕ, List, [], ◌∷◌, ◌++◌, length, Option, Some, None, IsSome, refl, ap, sym, subst, ◌∙◌, arith, inl, inr}
-use Rattle.std.specs.List.{All, IsDistinct}
+use Rattle.std.specs.List.{IsDistinct}
+use Rattle.std.proofs.lemmas.List.Elements.{All-weaker}
 use Rattle.std.specs.Map.{lookup}
 use Rattle.pcj_term.specs.declared.term.Term.{Term}
 use Rattle.pcj_term.specs.declared.term.Term.TheVariants as terms
@@ -15,6 +16,8 @@ use Rattle.pcj_ntriples.proofs.Laws.{is_either, is_not_both}
 use Rattle.pcj_table.specs.Table.{Table, row_at}
 use Rattle.pcj_oracle.specs.declared.block.Block.{Block}
 use Rattle.pcj_oracle.specs.Clock.{IsClock, next_number, stored_number}
+use Rattle.pcj_oracle.specs.Draw.{IsNumber, Keeps}
+use Rattle.pcj_sound.specs.Triples.{Joins}
 use Rattle.pcj_sound.specs.Fit.{FitTable, IsLoadBelow, AreLoadsBelow}
 use Rattle.pcj_sound.specs.Load.{Settled}
 use Rattle.pcj_sound.specs.Laws.{IsDrawn}
@@ -23,14 +26,14 @@ use Rattle.pcj_sound.proofs.Drawn.{clock_is_fit, draws_are_drawn, draws_keep_set
 use Rattle.pcj_sound.proofs.Empty.{empty_is_settled}
 use Rattle.pcj_sound.proofs.Walks.{settled_has_no_committed_locks}
 use Rattle.pcj_lines.specs.Lines.{loaded_line, committed_line, registered_line, taken_line, no_query_line, rows_line, spent_line}
+use Rattle.pcj_transcript.specs.declared.command.Command.{Command}
 use Rattle.pcj_transcript.specs.declared.command.Command.TheVariants as commands
 use Rattle.pcj_replay.specs.declared.response.Response.{Response}
 use Rattle.pcj_replay.specs.declared.response.Response.TheVariants.{Whole, Spent}
 use Rattle.pcj_replay.specs.declared.session.Session.{Session}
-use Rattle.pcj_load.specs.Drawing.{IsNumber, NoNumber}
-use Rattle.pcj_transcript.specs.Transcript.{State, start_state, SpentBy, printed_lines}
-use Rattle.pcj_load.specs.Transaction.{Rests, Starts, IsLoaded, IsSpent, LoadLeaves}
-use Rattle.pcj_replay.specs.Session.{Stands, IsFresh, IsLeftWith, Answered, CommitLeaves, Registered, Adds}
+use Rattle.pcj_transcript.specs.Transcript.{State, start_state, Replies, SpentBy, printed_lines}
+use Rattle.pcj_load.specs.Transaction.{Rests, Starts, IsLoaded, IsSpent, LoadLeaves, HasNoneOrAll}
+use Rattle.pcj_replay.specs.Session.{Stands, IsFresh, IsLeftWith, HasNoneOrAllOf, IsBrokenOff, KeepsTriples, IsLoadBrokenOff, Answered, CommitLeaves, Registered, Adds}
 use Rattle.pcj_transcript.specs.declared.query.Query.{Query}
 use Rattle.pcj_transcript.specs.Query.{QueryText, AnswerLines}
 use Rattle.pcj_load.specs.Walking.{TellsTriples}
@@ -68,9 +71,22 @@ fresh_stands table session fresh queries oracle =
       });
     }
 
-pub leaves_fit : (start : ℕ) (triples loaded : List Triple) (oracle : Option Block) (table : Table) (commit : Option ℕ) → LoadLeaves start triples loaded oracle table commit → FitTable table
-leaves_fit start triples loaded oracle table (Some commit) left = rests_fit commit left.after oracle table left.rests
-leaves_fit start triples loaded oracle table None left = left.fit
+-- ---- commands that are broken off
+
+pub rests_kept : (last : ℕ) (triples : List Triple) (oracle : Option Block) (table : Table) → Rests last triples oracle table → KeepsTriples triples table
+rests_kept last triples oracle table rests = record { fit = rests_fit last triples oracle table rests; has = rests.settled.has }
+
+pub same_kept : (triples : List Triple) (table after : Table) → after ≡ table → KeepsTriples triples table → KeepsTriples triples after
+same_kept triples table after same = subst (KeepsTriples triples) (sym same)
+
+pub kept_broken : (state : State) (command : Command) (table : Table) → KeepsTriples state.triples table → IsBrokenOff state command table
+kept_broken state command table kept = record { fit = kept.fit; has = inl kept.has }
+
+-- a load that was carried out, or for whose commit there is no number
+pub leaves_broken : (start : ℕ) (triples loaded : List Triple) (oracle : Option Block) (table : Table) (commit : Option ℕ) → LoadLeaves start triples loaded oracle table commit → IsLoadBrokenOff triples loaded table
+leaves_broken start triples loaded oracle table (Some commit) left =
+    record { fit = rests_fit commit left.after oracle table left.rests; has = inr (left.after, left.joined, left.rests.settled.has) }
+leaves_broken start triples loaded oracle table None left = record { fit = left.fit; has = inl left.has }
 
 -- ---- documents
 
@@ -85,9 +101,6 @@ loads_below number first triple is = record {
   predicate = load_below number first triple.predicate is.carries.1;
   object = load_below number first triple.object is.carries.2;
 }
-
-all_weaker : {X : Type 0} (P Q : X → Type 0) (xs : List X) → ((x : X) → P x → Q x) → All P xs → All Q xs
-all_weaker P Q xs f all = λ k d within. f _ (all k d within)
 
 pub not_refused : (text : List ℕ) (read number line : ℕ) (kind : NtKind) (triples : List Triple) → Document text read triples → DocumentFault text line kind → ⊥
 not_refused text read number line kind triples document fault = is_not_both text read triples line kind document fault
@@ -121,22 +134,23 @@ drawn_starts last number text triples loaded oracle oracle' table after rests dr
       next = drawn.next;
       first = first;
       valid = λ k triple within. (all k triple within).valid;
-      loads = all_weaker (IsTripleOf number) (AreLoadsBelow (number + 1)) loaded (loads_below number first) all;
+      loads = All-weaker (IsTripleOf number) (AreLoadsBelow (number + 1)) (loads_below number first) loaded all;
       once = subst (IsDistinct same_triple) (sym document.kept) (distinct_are_once _);
     }
 
-pub drawn_fits : (last number : ℕ) (triples : List Triple) (oracle oracle' : Option Block) (table after : Table) → Rests last triples oracle table →
-    IsNumber number oracle table oracle' after → IsClock oracle' after → FitTable after
-drawn_fits last number triples oracle oracle' table after rests drawn clock =
+undrawn_left : (last : ℕ) (triples : List Triple) (oracle oracle' : Option Block) (table after : Table) → Rests last triples oracle table → Keeps oracle table oracle' after → IsLeftWith triples after
+undrawn_left last triples oracle oracle' table after rests none = subst (IsLeftWith triples) (sym none.same) (rests_keep last triples oracle table rests)
+
+pub undrawn_keeps : (last : ℕ) (triples : List Triple) (oracle oracle' : Option Block) (table after : Table) → Rests last triples oracle table → Keeps oracle table oracle' after → KeepsTriples triples after
+undrawn_keeps last triples oracle oracle' table after rests none = same_kept triples table after none.same (rests_kept last triples oracle table rests)
+
+pub drawn_keeps : (last number : ℕ) (triples : List Triple) (oracle oracle' : Option Block) (table after : Table) → Rests last triples oracle table →
+    IsNumber number oracle table oracle' after → IsClock oracle' after → KeepsTriples triples after
+drawn_keeps last number triples oracle oracle' table after rests drawn clock =
     let is : number ≡ last + 1 = drawn.is ∙ rests.next in
     let next = drawn.next in
-    drawn_fit (last + 1) oracle' after clock (omega (arith, is, next)) (drawn_settled last number triples oracle oracle' table after rests drawn).fit
-
-pub undrawn_fits : (last : ℕ) (triples : List Triple) (oracle oracle' : Option Block) (table after : Table) → Rests last triples oracle table → NoNumber oracle table oracle' after → FitTable after
-undrawn_fits last triples oracle oracle' table after rests none = subst FitTable (sym none.same) (rests_fit last triples oracle table rests)
-
-undrawn_keeps : (last : ℕ) (triples : List Triple) (oracle oracle' : Option Block) (table after : Table) → Rests last triples oracle table → NoNumber oracle table oracle' after → IsLeftWith triples after
-undrawn_keeps last triples oracle oracle' table after rests none = subst (IsLeftWith triples) (sym none.same) (rests_keep last triples oracle table rests)
+    let settled = drawn_settled last number triples oracle oracle' table after rests drawn in
+    record { fit = drawn_fit (last + 1) oracle' after clock (omega (arith, is, next)) settled.fit; has = settled.has }
 
 pub drawn_rests : (last number : ℕ) (triples : List Triple) (oracle oracle' : Option Block) (table after : Table) → Rests last triples oracle table →
     IsNumber number oracle table oracle' after → IsClock oracle' after → Rests number triples oracle' after
@@ -169,16 +183,16 @@ rows_answered state session table after name reply query triples rows stands nam
 -- ---- loads
 
 pub load_spent : (state : State) (session : Session) (table after : Table) (oracle' : Option Block) (client read : ℕ) (text reply : List ℕ) (triples : List Triple) → Stands state session table →
-    Document text read triples → NoNumber session.oracle table oracle' after × (next_number session.oracle table ≡ 2 ^ 48) → reply ≡ printed_lines (spent_line ∷ []) →
+    Document text read triples → Keeps session.oracle table oracle' after → next_number session.oracle table ≡ 2 ^ 48 → reply ≡ printed_lines (spent_line ∷ []) →
     SpentBy state (commands.Load client text) reply × IsLeftWith state.triples after
-load_spent state session table after oracle' client read text reply triples stands document none is =
+load_spent state session table after oracle' client read text reply triples stands document none last is =
     let under = document_under text read (state.last + 1) triples document in (
       record {
         lines = [];
-        spends = record { loaded = under.0; document = under.1; cut = inl (sym stands.rests.next ∙ none.1, refl) };
+        spends = record { loaded = under.0; document = under.1; cut = inl (sym stands.rests.next ∙ last, refl) };
         is = is;
       },
-      undrawn_keeps state.last state.triples session.oracle oracle' table after stands.rests none.0,
+      undrawn_left state.last state.triples session.oracle oracle' table after stands.rests none,
     )
 
 pub commit_spent : (client number count : ℕ) (known loaded : List Triple) (session : Session) (table : Table) (reply : List ℕ) → IsSpent number known table → count ≡ length loaded →
@@ -199,25 +213,31 @@ commit_whole client number commit count known loaded session oracle table reply 
   subst (λ (o : Option Block). Rests (number + 1) left.after o table) (sym same) (subst (λ (n : ℕ). Rests n left.after oracle table) left.commit_is left.rests),
 )
 
+loads : (state : State) (client number : ℕ) (text reply : List ℕ) (loaded after : List Triple) → number ≡ state.last + 1 → Document text number loaded → Joins state.triples after loaded →
+    reply ≡ printed_lines (loaded_line client number (length loaded) ∷ committed_line client (number + 1) ∷ []) →
+    Replies state (commands.Load client text) reply (record { triples = after; queries = state.queries; last = number + 1 })
+loads state client number text reply loaded after is document joined e =
+    let two : number + 1 ≡ state.last + 2 = omega (arith, is) in
+    record {
+      lines = loaded_line client number (length loaded) ∷ committed_line client (number + 1) ∷ [];
+      reply = inl (record {
+        loaded = loaded;
+        document = subst (λ (n : ℕ). Document text n loaded) is document;
+        printed = ap (λ (n : ℕ). loaded_line client n (length loaded) ∷ committed_line client (number + 1) ∷ []) is ∙ ap (λ (n : ℕ). loaded_line client (state.last + 1) (length loaded) ∷ committed_line client n ∷ []) two;
+        joined = joined;
+        queries = refl;
+        last = two;
+      });
+      is = e;
+    }
+
 pub load_answered : (state : State) (old session : Session) (table after : Table) (client number : ℕ) (text : List ℕ) (loaded : List Triple) (response : Response) → Stands state old table →
     number ≡ next_number old.oracle table → Document text number loaded → session.queries ≡ old.queries → CommitLeaves client number state.triples loaded session after response →
     Answered state (commands.Load client text) session after response
 load_answered state old session table after client number text loaded (Whole reply) stands drawn document same left =
-    let is : number ≡ state.last + 1 = drawn ∙ stands.rests.next in
-    let two : number + 1 ≡ state.last + 2 = omega (arith, is) in (
+    let is : number ≡ state.last + 1 = drawn ∙ stands.rests.next in (
       record { triples = left.1; queries = state.queries; last = number + 1 },
-      record {
-        lines = loaded_line client number (length loaded) ∷ committed_line client (number + 1) ∷ [];
-        reply = inl (record {
-          loaded = loaded;
-          document = subst (λ (n : ℕ). Document text n loaded) is document;
-          printed = ap (λ (n : ℕ). loaded_line client n (length loaded) ∷ committed_line client (number + 1) ∷ []) is ∙ ap (λ (n : ℕ). loaded_line client (state.last + 1) (length loaded) ∷ committed_line client n ∷ []) two;
-          joined = left.2;
-          queries = refl;
-          last = two;
-        });
-        is = left.0;
-      },
+      loads state client number text reply loaded left.1 is document left.2 left.0,
       record { queries = ap (λ qs. qs.entries) same ∙ stands.queries; rests = left.3 },
     )
 load_answered state old session table after client number text loaded (Spent reply) stands drawn document same left =
@@ -236,12 +256,29 @@ load_answered state old session table after client number text loaded (Spent rep
       left.2,
     )
 
+-- a load that was broken off has the triples of the state before it, or of the one after it
+pub load_broken : (state : State) (client number : ℕ) (text : List ℕ) (loaded : List Triple) (old : Session) (table after : Table) → Stands state old table → number ≡ next_number old.oracle table →
+    Document text number loaded → IsLoadBrokenOff state.triples loaded after → IsBrokenOff state (commands.Load client text) after
+load_broken state client number text loaded old table after stands drawn document left = record { fit = left.fit; has = by left.has }
+  where
+    reply : List ℕ
+    reply = printed_lines (loaded_line client number (length loaded) ∷ committed_line client (number + 1) ∷ [])
+
+    by : HasNoneOrAll state.triples loaded (row_at after) → HasNoneOrAllOf state (commands.Load client text) after
+    by (inl none) = inl none
+    by (inr all) = inr (
+      reply,
+      record { triples = all.0; queries = state.queries; last = number + 1 },
+      loads state client number text reply loaded all.0 (drawn ∙ stands.rests.next) document all.1 refl,
+      all.2,
+    )
+
 -- ---- registrations
 
 pub add_spent : (client number : ℕ) (name : List ℕ) (query : Query) (triples : List Triple) (old session : Session) (oracle' : Option Block) (table after : Table) (reply : List ℕ) → Rests number triples old.oracle table →
-    NoNumber old.oracle table oracle' after × (next_number old.oracle table ≡ 2 ^ 48) → reply ≡ printed_lines (registered_line client number name ∷ spent_line ∷ []) → Adds client name query number triples old session after (Spent reply)
-add_spent client number name query triples old session oracle' table after reply rests none is =
-    (is, sym rests.next ∙ none.1, undrawn_keeps number triples old.oracle oracle' table after rests none.0)
+    Keeps old.oracle table oracle' after → next_number old.oracle table ≡ 2 ^ 48 → reply ≡ printed_lines (registered_line client number name ∷ spent_line ∷ []) → Adds client name query number triples old session after (Spent reply)
+add_spent client number name query triples old session oracle' table after reply rests none last is =
+    (is, sym rests.next ∙ last, undrawn_left number triples old.oracle oracle' table after rests none)
 
 pub add_whole : (client number commit : ℕ) (name : List ℕ) (query : Query) (triples : List Triple) (old session : Session) (oracle' : Option Block) (table after : Table) (reply : List ℕ) → Rests number triples old.oracle table →
     IsNumber commit old.oracle table oracle' after → IsClock oracle' after → session.oracle ≡ oracle' → session.queries.entries ≡ old.queries.entries ++ (name, query) ∷ [] →
@@ -255,9 +292,9 @@ add_whole client number commit name query triples old session oracle' table afte
     )
 
 pub registered_spent : (state : State) (old session : Session) (oracle' : Option Block) (table after : Table) (client : ℕ) (name : List ℕ) (query : Query) (reply : List ℕ) → Stands state old table →
-    NoNumber old.oracle table oracle' after × (next_number old.oracle table ≡ 2 ^ 48) → reply ≡ printed_lines (spent_line ∷ []) → Registered state client name query session after (Spent reply)
-registered_spent state old session oracle' table after client name query reply stands none is =
-    (inl (sym stands.rests.next ∙ none.1, is), undrawn_keeps state.last state.triples old.oracle oracle' table after stands.rests none.0)
+    Keeps old.oracle table oracle' after → next_number old.oracle table ≡ 2 ^ 48 → reply ≡ printed_lines (spent_line ∷ []) → Registered state client name query session after (Spent reply)
+registered_spent state old session oracle' table after client name query reply stands none last is =
+    (inl (sym stands.rests.next ∙ last, is), undrawn_left state.last state.triples old.oracle oracle' table after stands.rests none)
 
 pub registered_taken : (state : State) (old session : Session) (oracle' : Option Block) (table after : Table) (client number : ℕ) (name : List ℕ) (query : Query) (reply : List ℕ) → Stands state old table →
     IsNumber number old.oracle table oracle' after → IsClock oracle' after → session.oracle ≡ oracle' → session.queries ≡ old.queries → IsSome (lookup (same_bytes name) old.queries.entries) →

@@ -4,7 +4,6 @@ use Rattle.pcj_io.specs.Faults.{Rose}
 use Rattle.pcj_io.specs.Sink.{Appends, AppendsPrefix}
 use Rattle.pcj_table.specs.Table.{Table}
 use Rattle.pcj_oracle.specs.Clock.{stored_number}
-use Rattle.pcj_sound.specs.Fit.{FitTable}
 use Rattle.pcj_lines.specs.Lines.{script_line, usage_line, ended}
 use Rattle.pcj_transcript.specs.declared.command.Command.{Command}
 use Rattle.pcj_transcript.specs.declared.script.Script.{Script}
@@ -57,13 +56,13 @@ pub record Interrupts (first : ℕ) (left old new : Option (List ℕ)) (table : 
   pub reads : Reads left commands refused
   pub printed : CutsWrite first commands old new table ⊎ PrintsRefusalPart first commands refused old new table
 
--- A command was broken off. The transcript of those before it is written, and the table is fit.
+-- A command was broken off. The transcript of those before it is written. The table is fit, and has their triples, or those
+-- after that command too.
 pub record BreaksOff (first : ℕ) (left old new : Option (List ℕ)) (table : Table) : Type 0 where
   pub commands : List Command
   pub refused : Option ℕ
   pub reads : Reads left commands refused
-  pub printed : PrintsFront first commands old new
-  pub fit : FitTable table
+  pub printed : PrintsFront first commands old new table
 
 -- nothing is written, and the table is as it was
 abbrev pub DoesNothing : Option (List ℕ) → Option (List ℕ) → Table → Table → Type 0
@@ -112,9 +111,9 @@ ClosesPart (Some line) old new = AppendsPrefix old new (ended (script_line line)
 abbrev pub Stops : ℕ → List Command → Option ℕ → Option (List ℕ) → Option (List ℕ) → Table → Stop → Type 0
 Stops first commands refused old new table stops.SourceFault = ⊥
 Stops first commands refused old new table stops.SinkFault = CutsWrite first commands old new table ⊎ PrintsRefusalPart first commands refused old new table
-Stops first commands refused old new table stops.TableFault = PrintsFront first commands old new × FitTable table
+Stops first commands refused old new table stops.TableFault = PrintsFront first commands old new table
 Stops first commands refused old new table stops.Memory =
-    (PrintsFront first commands old new × FitTable table) ⊎ CutsWrite first commands old new table ⊎ PrintsRefusalPart first commands refused old new table
+    PrintsFront first commands old new table ⊎ CutsWrite first commands old new table ⊎ PrintsRefusalPart first commands refused old new table
 
 -- what was read is a script of these commands
 abbrev pub IsScriptOf : Option (List ℕ) → Script → Type 0

@@ -2,7 +2,6 @@
 use Rattle.std.specs.Prelude.{◌≡◌, ◌⊎◌, ℕ, ◌^◌, ◌<◌, List, [], ◌∷◌, ◌++◌, Option, Some}
 use Rattle.pcj_io.specs.Sink.{Appends, AppendsPrefix}
 use Rattle.pcj_table.specs.Table.{Table}
-use Rattle.pcj_sound.specs.Fit.{FitTable}
 use Rattle.pcj_lines.specs.Lines.{script_line, ended}
 use Rattle.pcj_transcript.specs.declared.command.Command.{Command}
 use Rattle.pcj_transcript.specs.Transcript.{State, Transcript, SpentTranscript, Replies, SpentBy}
@@ -11,7 +10,7 @@ use Rattle.pcj_replay.specs.declared.run.Ran.TheVariants as ran
 use Rattle.pcj_replay.specs.declared.session.Session.{Session}
 use Rattle.pcj_replay.specs.declared.stop.Stop.{Stop}
 use Rattle.pcj_replay.specs.declared.stop.Stop.TheVariants as stops
-use Rattle.pcj_replay.specs.Session.{Stands, IsLeftWith}
+use Rattle.pcj_replay.specs.Session.{Stands, IsLeftWith, IsBrokenOff}
 
 -- all of one text is written, and a prefix of the next
 pub record AppendsPart (old new : Option (List ℕ)) (front next : List ℕ) : Type 0 where
@@ -47,15 +46,17 @@ pub record PrintsRefusal (first : ℕ) (commands : List Command) (line : ℕ) (o
 
 -- ---- transcripts in part: at most what the last command answers is missing
 
--- the transcript of the first of the commands
-pub record PrintsFront (first : ℕ) (commands : List Command) (old new : Option (List ℕ)) : Type 0 where
+-- The transcript of the commands before one that was broken off. The table has their triples, or those after that one too.
+pub record PrintsFront (first : ℕ) (commands : List Command) (old new : Option (List ℕ)) (table : Table) : Type 0 where
   pub before : List Command
+  pub command : Command
   pub after : List Command
-  pub split : commands ≡ before ++ after
+  pub split : commands ≡ before ++ command ∷ after
   pub text : List ℕ
   pub end : State
   pub transcript : Transcript first before text end
   pub written : Appends old new text
+  pub leaves : IsBrokenOff end command table
 
 -- with a prefix of the reply to the next, after which the table has these triples
 pub record PrintsReplyPart (first : ℕ) (commands : List Command) (old new : Option (List ℕ)) (table : Table) : Type 0 where
@@ -111,8 +112,8 @@ Runs first commands old new table ran.Spent = PrintsSpent first commands old new
 abbrev pub RunStops : ℕ → List Command → Option (List ℕ) → Option (List ℕ) → Table → Stop → Type 0
 RunStops first commands old new table stops.SourceFault = ⊥
 RunStops first commands old new table stops.SinkFault = CutsWrite first commands old new table
-RunStops first commands old new table stops.TableFault = PrintsFront first commands old new × FitTable table
-RunStops first commands old new table stops.Memory = (PrintsFront first commands old new × FitTable table) ⊎ CutsWrite first commands old new table
+RunStops first commands old new table stops.TableFault = PrintsFront first commands old new table
+RunStops first commands old new table stops.Memory = PrintsFront first commands old new table ⊎ CutsWrite first commands old new table
 
 -- ---- one command
 
@@ -157,5 +158,5 @@ WritesPart state command session table old new = WritesReplyPart state command s
 abbrev pub WriteStops : State → Command → Session → Table → Option (List ℕ) → Option (List ℕ) → Stop → Type 0
 WriteStops state command session table old new stops.SourceFault = ⊥
 WriteStops state command session table old new stops.SinkFault = WritesPart state command session table old new
-WriteStops state command session table old new stops.TableFault = Appends old new [] × FitTable table
-WriteStops state command session table old new stops.Memory = (Appends old new [] × FitTable table) ⊎ WritesPart state command session table old new
+WriteStops state command session table old new stops.TableFault = Appends old new [] × IsBrokenOff state command table
+WriteStops state command session table old new stops.Memory = (Appends old new [] × IsBrokenOff state command table) ⊎ WritesPart state command session table old new

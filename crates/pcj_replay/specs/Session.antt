@@ -9,7 +9,7 @@ use Rattle.pcj_sound.specs.Fit.{FitTable}
 use Rattle.pcj_sound.specs.Load.{NoCommittedLocks}
 use Rattle.pcj_sound.specs.Laws.{HasClockAlone}
 use Rattle.pcj_lines.specs.Lines.{loaded_line, committed_line, registered_line, taken_line, spent_line}
-use Rattle.pcj_load.specs.Transaction.{Rests}
+use Rattle.pcj_load.specs.Transaction.{Rests, HasNoneOrAll}
 use Rattle.pcj_transcript.specs.declared.command.Command.{Command}
 use Rattle.pcj_transcript.specs.declared.query.Query.{Query}
 use Rattle.pcj_transcript.specs.Transcript.{State, Replies, SpentBy, query_named, printed_lines}
@@ -38,6 +38,27 @@ pub record IsLeftWith (triples : List Triple) (table : Table) : Type 0 where
   pub fit : FitTable table
   pub has : HasTriples (row_at table) triples
   pub uncommitted : NoCommittedLocks (row_at table)
+
+-- The triples of the state before a command, or of one that it may leave: of a load none has joined, or all have.
+abbrev pub HasNoneOrAllOf : State → Command → Table → Type 0
+HasNoneOrAllOf old command table =
+    HasTriples (row_at table) old.triples
+    ⊎ ((text : List ℕ) × (new : State) × Replies old command text new × HasTriples (row_at table) new.triples)
+
+-- a table on which a command was broken off
+pub record IsBrokenOff (old : State) (command : Command) (table : Table) : Type 0 where
+  pub fit : FitTable table
+  pub has : HasNoneOrAllOf old command table
+
+-- one on which it has changed no triple
+pub record KeepsTriples (triples : List Triple) (table : Table) : Type 0 where
+  pub fit : FitTable table
+  pub has : HasTriples (row_at table) triples
+
+-- one on which the load of these triples was broken off
+pub record IsLoadBrokenOff (triples loaded : List Triple) (table : Table) : Type 0 where
+  pub fit : FitTable table
+  pub has : HasNoneOrAll triples loaded (row_at table)
 
 -- ---- what a command answers
 

@@ -4,7 +4,6 @@ ghost use Rattle.pcj_term.specs.declared.triple.Triple.{Triple};
 ghost use Rattle.pcj_term.specs.Order.{same_bytes};
 ghost use Rattle.pcj_table.specs.Calls.{HasTableCause};
 ghost use Rattle.pcj_ntriples.specs.Document.{Document};
-ghost use Rattle.pcj_sound.specs.Fit.{FitTable};
 ghost use Rattle.pcj_transcript.specs.declared.command.Command.TheVariants as commands;
 ghost use Rattle.pcj_transcript.specs.Transcript.{State, start_state};
 ghost use Rattle.pcj_table.specs.Table.{Table};
@@ -17,9 +16,9 @@ use crate::reply::{
 };
 use crate::response::Response;
 use indexmap::IndexMap;
-use pcj_load::{draw, load_triples, triples_of};
+use pcj_load::{load_triples, triples_of};
 use pcj_ntriples::{NtRefusal, nt_number, read_document};
-use pcj_oracle::Oracle;
+use pcj_oracle::{Oracle, OracleError};
 use pcj_table::{RowTable, TableError};
 use pcj_term::{Bytes, Items, Memory, Triple, TryClone};
 use pcj_transcript::{Command, Query, answer_lines};
@@ -35,7 +34,7 @@ pub(crate) struct Session {
 }
 
 impl Session {
-    ghost use Rattle.pcj_replay.specs.Session.{Stands, IsFresh, HasState, Answered, CommitLeaves, Registered, Adds};
+    ghost use Rattle.pcj_replay.specs.Session.{Stands, IsFresh, HasState, IsBrokenOff, KeepsTriples, IsLoadBrokenOff, Answered, CommitLeaves, Registered, Adds};
 
     /// A session before its first command, for a table that no other call has written.
     pub(crate) fn new(alloc: Global) -> Session
@@ -58,7 +57,8 @@ impl Session {
         requires { HasState self.old (T.rows table.old) }
         ensures answered { (state : State) → Stands state self.old (T.rows table.old) →
             IfOk result (Answered state command.now self.new (T.rows table.new)) }
-        ensures cut { OnErr result (FitTable (T.rows table.new)) }
+        ensures cut { (state : State) → Stands state self.old (T.rows table.old) →
+            OnErr result (IsBrokenOff state command.now (T.rows table.new)) }
         ensures cause { HasTableCause (T.failures table.old) (T.failures table.new) result }
     {
         match command {
@@ -82,7 +82,8 @@ impl Session {
         requires { HasState self.old (T.rows table.old) }
         ensures answered { (state : State) → Stands state self.old (T.rows table.old) →
             IfOk result (Answered state (commands.Register client name.now text.now) self.new (T.rows table.new)) }
-        ensures cut { OnErr result (FitTable (T.rows table.new)) }
+        ensures cut { (state : State) → Stands state self.old (T.rows table.old) →
+            OnErr result (KeepsTriples state.triples (T.rows table.new)) }
         ensures cause { HasTableCause (T.failures table.old) (T.failures table.new) result }
     {
         match Query::read(alloc, text.as_slice())? {
@@ -106,11 +107,15 @@ impl Session {
         requires { HasState self.old (T.rows table.old) }
         ensures answered { (state : State) → Stands state self.old (T.rows table.old) →
             IfOk result (Registered state client name.now query self.new (T.rows table.new)) }
-        ensures cut { OnErr result (FitTable (T.rows table.new)) }
+        ensures cut { (state : State) → Stands state self.old (T.rows table.old) →
+            OnErr result (KeepsTriples state.triples (T.rows table.new)) }
         ensures cause { HasTableCause (T.failures table.old) (T.failures table.new) result }
     {
-        let Some(number) = draw(&mut self.oracle, table)? else {
-            return Ok(Response::Spent(spent_reply(alloc)?));
+        let number = match self.oracle.draw(table) {
+            Ok(number) => number,
+            Err(OracleError::Spent) => return Ok(Response::Spent(spent_reply(alloc)?)),
+            Err(OracleError::Failed) => return Err(TableError::Failed),
+            Err(OracleError::Memory) => return Err(TableError::Memory),
         };
         if self.queries.contains_key(name) {
             self.expected = number + 1;
@@ -134,13 +139,19 @@ impl Session {
         requires small { number < 2 ^ 48 }
         ensures added { (triples : List Triple) → Rests number triples self.old.oracle (T.rows table.old) →
             IfOk result (Adds client name.now query number triples self.old self.new (T.rows table.new)) }
-        ensures cut { OnErr result (FitTable (T.rows table.new)) }
+        ensures cut { (triples : List Triple) → Rests number triples self.old.oracle (T.rows table.old) →
+            OnErr result (KeepsTriples triples (T.rows table.new)) }
         ensures cause { HasTableCause (T.failures table.old) (T.failures table.new) result }
     {
-        let Some(_commit) = draw(&mut self.oracle, table)? else {
-            let reply = spent_registration_reply(alloc, client, number, name)?;
-            return Ok(Response::Spent(reply));
-        };
+        match self.oracle.draw(table) {
+            Ok(_commit) => {}
+            Err(OracleError::Spent) => {
+                let reply = spent_registration_reply(alloc, client, number, name)?;
+                return Ok(Response::Spent(reply));
+            }
+            Err(OracleError::Failed) => return Err(TableError::Failed),
+            Err(OracleError::Memory) => return Err(TableError::Memory),
+        }
         insert_query(&mut self.queries, name.try_clone(alloc)?, query)?;
         self.expected = number + 2;
         let reply = registered_reply(alloc, client, number, name)?;
@@ -157,7 +168,8 @@ impl Session {
         requires { HasState self.now (T.rows table.old) }
         ensures answered { (state : State) → Stands state self.now (T.rows table.old) →
             IfOk result (Answered state (commands.Answers name.now) self.now (T.rows table.new)) }
-        ensures cut { OnErr result (FitTable (T.rows table.new)) }
+        ensures cut { (state : State) → Stands state self.now (T.rows table.old) →
+            OnErr result (KeepsTriples state.triples (T.rows table.new)) }
         ensures cause { HasTableCause (T.failures table.old) (T.failures table.new) result }
     {
         match self.queries.get(name) {
@@ -185,7 +197,8 @@ impl Session {
         requires { HasState self.old (T.rows table.old) }
         ensures answered { (state : State) → Stands state self.old (T.rows table.old) →
             IfOk result (Answered state (commands.Load client text.now) self.new (T.rows table.new)) }
-        ensures cut { OnErr result (FitTable (T.rows table.new)) }
+        ensures cut { (state : State) → Stands state self.old (T.rows table.old) →
+            OnErr result (IsBrokenOff state (commands.Load client text.now) (T.rows table.new)) }
         ensures cause { HasTableCause (T.failures table.old) (T.failures table.new) result }
     {
         match read_document(alloc, text.as_slice(), self.expected) {
@@ -211,11 +224,15 @@ impl Session {
         requires document { Document text.now self.old.expected triples }
         ensures answered { (state : State) → Stands state self.old (T.rows table.old) →
             IfOk result (Answered state (commands.Load client text.now) self.new (T.rows table.new)) }
-        ensures cut { OnErr result (FitTable (T.rows table.new)) }
+        ensures cut { (state : State) → Stands state self.old (T.rows table.old) →
+            OnErr result (IsBrokenOff state (commands.Load client text.now) (T.rows table.new)) }
         ensures cause { HasTableCause (T.failures table.old) (T.failures table.new) result }
     {
-        let Some(number) = draw(&mut self.oracle, table)? else {
-            return Ok(Response::Spent(spent_reply(alloc)?));
+        let number = match self.oracle.draw(table) {
+            Ok(number) => number,
+            Err(OracleError::Spent) => return Ok(Response::Spent(spent_reply(alloc)?)),
+            Err(OracleError::Failed) => return Err(TableError::Failed),
+            Err(OracleError::Memory) => return Err(TableError::Memory),
         };
         let triples = read_under(alloc, text, triples, self.expected, number)?;
         self.commit(alloc, table, client, &triples, number)
@@ -235,7 +252,8 @@ impl Session {
         ensures left { (known : List Triple) → Starts number known triples.now self.old.oracle (T.rows table.old) →
             IfOk result (CommitLeaves client number known triples.now self.new (T.rows table.new)) }
         ensures queries { self.new.queries ≡ self.old.queries }
-        ensures cut { OnErr result (FitTable (T.rows table.new)) }
+        ensures cut { (known : List Triple) → Starts number known triples.now self.old.oracle (T.rows table.old) →
+            OnErr result (IsLoadBrokenOff known triples.now (T.rows table.new)) }
         ensures cause { HasTableCause (T.failures table.old) (T.failures table.new) result }
     {
         let loaded = load_triples(alloc, &mut self.oracle, table, triples.as_slice(), number)?;

@@ -1,10 +1,17 @@
 use Rattle.std.proofs.Common.{◌≡◌, subst}
 use Rattle.pcj_replay.specs.declared.stop.Stop.{Stop}
 use Rattle.pcj_replay.specs.Session.{Answered}
-use Rattle.pcj_replay.specs.Stop.{stop_of}
+use Rattle.pcj_replay.specs.Stop.{stop_of, table_stop}
 use Rattle.pcj_replay.specs.Run.{WriteStops}
-use Rattle.pcj_replay.proofs.AnswerLaws.{IfErr-from, whole_written, spent_written, whole_stops, spent_stops}
+use Rattle.pcj_replay.proofs.AnswerLaws.{IfErr-from, broken_stops, whole_written, spent_written, whole_stops, spent_stops}
 use Rattle.pcj_replay.proofs.run.answer.Goals as goal
+
+pub returns-in_err-reply-clause-cut : goal.returns-in_err-reply-clause-cut
+returns-in_err-reply-clause-cut g c = λ state stands.
+    IfErr-from (WriteStops state c.args.command.now c.carry_out.new.self (g.T.RowTable.rows c.carry_out.new.table) (g.K.Sink.taken c.args.sink.now) (g.K.Sink.taken c.args.sink.now))
+    (λ (stop : Stop). stop ≡ table_stop c.in_err-reply.field-0.0) c.from_residual.result c.from_residual.ensures.1
+    (λ stop is. broken_stops state c.args.command.now c.carry_out.new.self (g.T.RowTable.rows c.carry_out.new.table) (g.K.Sink.taken c.args.sink.now) c.in_err-reply.field-0.0 stop
+    ((c.in_err-reply.ensures {u = tt}).cut state stands) is)
 
 pub returns-in_err-write_all-in-Whole-clause-cut : goal.returns-in_err-write_all-in-Whole-clause-cut
 returns-in_err-write_all-in-Whole-clause-cut g c = λ state stands.

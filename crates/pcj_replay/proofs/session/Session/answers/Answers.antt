@@ -4,24 +4,23 @@ use Rattle.pcj_io.proofs.Errors.{OnErr-of}
 use Rattle.pcj_lines.specs.Lines.{rows_line}
 use Rattle.pcj_transcript.specs.Query.{AnswerLines}
 use Rattle.pcj_transcript.specs.Transcript.{printed_lines}
-use Rattle.pcj_replay.proofs.SessionLaws.{rests_fit, unknown_answered, rows_answered}
-use Rattle.pcj_load.proofs.TransactionLaws.{fit_same}
+use Rattle.pcj_replay.proofs.SessionLaws.{rests_kept, same_kept, unknown_answered, rows_answered}
 use Rattle.pcj_replay.proofs.session.Session.answers.Goals as goal
 
 pub returns-in_err-reply-in-None-clause-cut : goal.returns-in_err-reply-in-None-clause-cut
-returns-in_err-reply-in-None-clause-cut g c = OnErr-of c.from_residual.result (rests_fit _ _ _ _ c.requires.1.rests)
+returns-in_err-reply-in-None-clause-cut g c = λ state stands. OnErr-of c.from_residual.result (rests_kept _ _ _ _ stands.rests)
 
 pub returns-in_err-triples-in-Some-clause-cut : goal.returns-in_err-triples-in-Some-clause-cut
-returns-in_err-triples-in-Some-clause-cut g c =
-    OnErr-of c.from_residual-in_err-triples-in-Some.result (fit_same _ _ c.triples_of.ensures.same (rests_fit _ _ _ _ c.requires.1.rests))
+returns-in_err-triples-in-Some-clause-cut g c = λ state stands.
+    OnErr-of c.from_residual-in_err-triples-in-Some.result (same_kept _ _ _ c.triples_of.ensures.same (rests_kept _ _ _ _ stands.rests))
 
 pub returns-in_err-rows-in-Some-clause-cut : goal.returns-in_err-rows-in-Some-clause-cut
-returns-in_err-rows-in-Some-clause-cut g c =
-    OnErr-of c.from_residual-in_err-rows-in-Some.result (fit_same _ _ c.triples_of.ensures.same (rests_fit _ _ _ _ c.requires.1.rests))
+returns-in_err-rows-in-Some-clause-cut g c = λ state stands.
+    OnErr-of c.from_residual-in_err-rows-in-Some.result (same_kept _ _ _ c.triples_of.ensures.same (rests_kept _ _ _ _ stands.rests))
 
 pub returns-in_err-reply-in-Some-clause-cut : goal.returns-in_err-reply-in-Some-clause-cut
-returns-in_err-reply-in-Some-clause-cut g c =
-    OnErr-of c.from_residual-in_err-reply-in-Some.result (fit_same _ _ c.triples_of.ensures.same (rests_fit _ _ _ _ c.requires.1.rests))
+returns-in_err-reply-in-Some-clause-cut g c = λ state stands.
+    OnErr-of c.from_residual-in_err-reply-in-Some.result (same_kept _ _ _ c.triples_of.ensures.same (rests_kept _ _ _ _ stands.rests))
 
 pub returns-in_ok-reply-in-None-clause-answered : goal.returns-in_ok-reply-in-None-clause-answered
 returns-in_ok-reply-in-None-clause-answered g c = λ state stands.

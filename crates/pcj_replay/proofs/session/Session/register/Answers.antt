@@ -3,14 +3,14 @@ use Rattle.std.proofs.lemmas.Result.{IfOk-weaker}
 use Rattle.pcj_io.proofs.Errors.{OnErr-of}
 use Rattle.pcj_transcript.specs.Query.{QueryText}
 use Rattle.pcj_replay.proofs.ReplyLaws.{refuses_query}
-use Rattle.pcj_replay.proofs.SessionLaws.{rests_fit, registered_answered}
+use Rattle.pcj_replay.proofs.SessionLaws.{rests_kept, registered_answered}
 use Rattle.pcj_replay.proofs.session.Session.register.Goals as goal
 
 pub returns-in_err-read-clause-cut : goal.returns-in_err-read-clause-cut
-returns-in_err-read-clause-cut g c = OnErr-of c.from_residual.result (rests_fit _ _ _ _ c.requires.1.rests)
+returns-in_err-read-clause-cut g c = λ state stands. OnErr-of c.from_residual.result (rests_kept _ _ _ _ stands.rests)
 
 pub returns-in_err-reply-in-None-clause-cut : goal.returns-in_err-reply-in-None-clause-cut
-returns-in_err-reply-in-None-clause-cut g c = OnErr-of c.from_residual-in_err-reply-in-None.result (rests_fit _ _ _ _ c.requires.1.rests)
+returns-in_err-reply-in-None-clause-cut g c = λ state stands. OnErr-of c.from_residual-in_err-reply-in-None.result (rests_kept _ _ _ _ stands.rests)
 
 pub returns-in_ok-reply-in-None-clause-answered : goal.returns-in_ok-reply-in-None-clause-answered
 returns-in_ok-reply-in-None-clause-answered g c = λ state stands.
