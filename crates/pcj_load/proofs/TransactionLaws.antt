@@ -1,29 +1,39 @@
 -- A load, from its number to its commit.
-use Rattle.std.proofs.Common.{◌≡◌, ◌≤◌, ◌<◌, ◌+◌, ◌-◌, ◌^◌, ℕ, zero, suc, List, [], ◌∷◌, ◌++◌, length, get_or, filter, take, Option, Some, None, refl, ap, sym, subst, ◌∙◌, arith, inl, inr}
+use Rattle.std.proofs.Common.{◌≡◌, ◌≤◌, ◌<◌, ◌+◌, ◌-◌, ◌^◌, ℕ, zero, suc, Bool, true, cond, List, [], ◌∷◌, ◌++◌, length, get_or, filter, take, Option, Some, None, refl, ap, sym, subst, ◌∙◌, arith, inl, inr}
+use Rattle.std.specs.Prelude.{is_none}
 use Rattle.std.proofs.lemmas.List.{take_all}
+use Rattle.std.proofs.lemmas.List.Elements.{All-contains}
 use Rattle.std.specs.List.{All, IsDistinct}
 use Rattle.pcj_term.specs.declared.triple.Triple.{Triple}
 use Rattle.pcj_term.specs.Triple.{same_triple}
 use Rattle.pcj_table.specs.declared.row.Row.{Row}
-use Rattle.pcj_table.specs.Table.{Key, Table, row_at}
+use Rattle.pcj_table.specs.declared.update.Update.TheVariants.{SetLock, DropLock, AddVersion}
+use Rattle.pcj_table.specs.Row.{no_row, newest, updated, updated_all}
+use Rattle.pcj_table.specs.Table.{Key, Table, row_at, shown}
+use Rattle.pcj_encode.specs.declared.order.Order.TheVariants.{Spo}
 use Rattle.pcj_encode.specs.Name.{IsTriple}
 use Rattle.pcj_oracle.specs.declared.block.Block.{Block}
 use Rattle.pcj_oracle.specs.Clock.{IsClock, IsClockAt, clock_key, clock_number, stored_number, next_number, next_at}
 use Rattle.pcj_oracle.specs.Draw.{IsNumber}
-use Rattle.pcj_mvcc.specs.Reading.{Rows}
+use Rattle.pcj_rowtables.specs.Rows.{triple_key}
+use Rattle.pcj_mvcc.specs.Reading.{Rows, put_of}
 use Rattle.pcj_sound.specs.Triples.{HasTriples}
 use Rattle.pcj_sound.specs.Fit.{Fit, FitTable, AreLoadsBelow}
-use Rattle.pcj_sound.specs.Load.{Settled, IsLoad, load_keys, load_lock, load_version, with_locks, with_versions, locked_rows, committed_rows}
+use Rattle.pcj_sound.specs.Load.{Settled, is_one_of, IsLoad, load_keys, load_lock, load_version, with_locks, with_versions, locked_rows, committed_rows}
 use Rattle.pcj_sound.specs.Laws.{IsDrawn, HasClockAlone}
 use Rattle.pcj_sound.specs.LoadLaws.{is_absent, IsPrewritten}
+use Rattle.pcj_sound.proofs.Filtered.{there_filtered}
+use Rattle.pcj_sound.proofs.Held.{unlocked_stands}
+use Rattle.pcj_sound.proofs.Keys.{is_one}
+use Rattle.pcj_sound.proofs.Told.{none_found, reads_tell}
 use Rattle.pcj_sound.proofs.Adding.{absent_are_added, added_join}
 use Rattle.pcj_sound.proofs.Empty.{empty_is_settled}
 use Rattle.pcj_sound.proofs.Drawn.{fit_grows, fit_below_clock, clock_is_fit, draws_are_drawn, draws_keep_settled, loads_grow}
-use Rattle.pcj_sound.proofs.Prewrites.{prewrites_keep_triples, draws_pass_locks, draws_keep_loads}
+use Rattle.pcj_sound.proofs.Prewrites.{empty_before, prewrites_keep_triples, draws_pass_locks, draws_keep_loads}
 use Rattle.pcj_sound.proofs.Commits.{clock_stays, commits_begin, commits_add_triples, loads_end}
 use Rattle.pcj_load.specs.declared.load.Load.{Load}
 use Rattle.pcj_load.specs.Loading.{Begins, primary_of, Locks, LocksPart, IsLocked, Commits, CommitsPart}
-use Rattle.pcj_load.specs.Transaction.{Rests, IsAtRest, Starts, IsLoaded, IsSpent, HasNoneOrAll}
+use Rattle.pcj_load.specs.Transaction.{StandAt, Rests, IsAtRest, Starts, IsLoaded, IsSpent, HasNoneOrAll}
 
 -- ---- the clock
 
@@ -209,6 +219,41 @@ part_fit load commit triples loaded oracle old table after keys due clock next p
     drawn_fit (commit + 1) oracle after (clock_same oracle table after same clock) (omega (arith, after_next))
     (subst (Fit (commit + 1)) (sym (committed_are load commit part.0 triples loaded old table (row_at after) keys due part.1)) (committed_fit load commit part.0 triples loaded old table keys due))
 
+-- the rows of an absent triple hold the version of the commit alone
+rows_stand : (load : Load) (commit : ℕ) (triples loaded : List Triple) (oracle : Option Block) (old table after : Table) → IsBegun load triples loaded oracle old → (due : IsDue load commit triples loaded old table) →
+    Commits (take (length load.keys) load.keys) load commit (row_at table) (row_at after) → StandAt commit triples loaded (row_at after)
+rows_stand load commit triples loaded oracle old table after begun due commits triple held absent order =
+    unlocked_stands (row_at after) (triple_key order triple) (ap (λ (row : Row). row.lock) row) ∙ ap (λ (row : Row). put_of (newest row.versions)) row
+  where
+    added : List Triple
+    added = filter (is_absent (row_at old)) loaded
+
+    valid : IsTriple triple
+    valid = All-contains IsTriple loaded triple begun.starts.valid held
+
+    nothing : is_absent (row_at old) triple ≡ true
+    nothing = ap is_none (none_found (shown (row_at old (triple_key Spo triple))) (λ some. absent ((reads_tell load.start triples (row_at old) begun.starts.settled triple valid).1 some)))
+
+    own : is_one_of (load_keys added) (triple_key order triple) ≡ true
+    own = is_one added order triple (there_filtered (is_absent (row_at old)) loaded triple held nothing)
+
+    all : take (length load.keys) (load_keys added) ≡ load_keys added
+    all = take_all (length load.keys) (load_keys added) (subst (λ (ks : List Key). length ks ≤ length load.keys) begun.keys (omega arith))
+
+    locked : Row
+    locked = updated no_row (SetLock (load_lock load.start (primary_of load)))
+
+    was : with_locks (load_keys added) (load_lock load.start (primary_of load)) due.before (triple_key order triple) ≡ locked
+    was = ap (λ (b : Bool). cond b (updated (due.before (triple_key order triple)) (SetLock (load_lock load.start (primary_of load)))) (due.before (triple_key order triple))) own
+        ∙ ap (λ (row : Row). updated row (SetLock (load_lock load.start (primary_of load)))) (empty_before load.start load.start triples added due.before due.is (triple_key order triple) own)
+
+    row : row_at after (triple_key order triple) ≡ updated_all locked (DropLock ∷ AddVersion (load_version load.start commit) ∷ [])
+    row = ap (λ (r : Rows). r (triple_key order triple)) (committed_are load commit (length load.keys) triples loaded old table (row_at after) begun.keys due commits)
+        ∙ ap (λ (ks : List Key). with_versions ks (load_version load.start commit) (with_locks (load_keys added) (load_lock load.start (primary_of load)) due.before) (triple_key order triple)) all
+        ∙ ap (λ (b : Bool). cond b (updated_all (with_locks (load_keys added) (load_lock load.start (primary_of load)) due.before (triple_key order triple)) (DropLock ∷ AddVersion (load_version load.start commit) ∷ []))
+        (with_locks (load_keys added) (load_lock load.start (primary_of load)) due.before (triple_key order triple))) own
+        ∙ ap (λ (row : Row). updated_all row (DropLock ∷ AddVersion (load_version load.start commit) ∷ [])) was
+
 -- all keys were committed
 pub is_loaded : (load : Load) (commit : ℕ) (triples loaded : List Triple) (begun_oracle oracle : Option Block) (old table after : Table) → IsBegun load triples loaded begun_oracle old →
     IsDue load commit triples loaded old table → commit < 2 ^ 48 → IsClock oracle table → next_number oracle table ≡ commit + 1 → Commits load.keys load commit (row_at table) (row_at after) →
@@ -218,6 +263,7 @@ is_loaded load commit triples loaded begun_oracle oracle old table after begun d
   below = below;
   after = triples ++ filter (is_absent (row_at old)) loaded;
   joined = added_join load.start triples loaded (row_at old) begun.starts.settled begun.starts.valid;
+  stand = rows_stand load commit triples loaded begun_oracle old table after begun due all;
   rests = record {
     settled = subst (Settled (commit + 1) (triples ++ filter (is_absent (row_at old)) loaded)) (sym (committed_are load commit (length load.keys) triples loaded old table (row_at after) begun.keys due all))
         (loads_end load.start load.start commit triples (filter (is_absent (row_at old)) loaded) due.before (primary_of load) (length load.keys) due.is (omega (arith, later))

@@ -1,11 +1,13 @@
 -- What the load of a document's triples makes of a table.
-use Rattle.std.specs.Prelude.{◌≡◌, ◌⊎◌, ℕ, ◌+◌, ◌^◌, ◌<◌, ◌≤◌, List, Option, Some, None}
-use Rattle.std.specs.List.{All, IsDistinct}
+use Rattle.std.specs.Prelude.{◌≡◌, ◌⊎◌, ℕ, ◌+◌, ◌^◌, ◌<◌, ◌≤◌, List, [], Option, Some, None}
+use Rattle.std.specs.List.{All, Contains, IsDistinct}
 use Rattle.pcj_term.specs.declared.triple.Triple.{Triple}
 use Rattle.pcj_term.specs.Triple.{same_triple, Joins}
 use Rattle.pcj_table.specs.Table.{Table, row_at}
+use Rattle.pcj_encode.specs.declared.order.Order.{Order}
 use Rattle.pcj_encode.specs.Name.{IsTriple}
-use Rattle.pcj_mvcc.specs.Reading.{Rows}
+use Rattle.pcj_rowtables.specs.Rows.{triple_key}
+use Rattle.pcj_mvcc.specs.Reading.{Rows, standing}
 use Rattle.pcj_oracle.specs.declared.block.Block.{Block}
 use Rattle.pcj_oracle.specs.Clock.{IsClock, next_number}
 use Rattle.pcj_sound.specs.Triples.{HasTriples}
@@ -36,12 +38,18 @@ pub record Starts (start : ℕ) (triples loaded : List Triple) (oracle : Option 
 abbrev pub CanStart : ℕ → List Triple → Option Block → Table → Type 0
 CanStart start loaded oracle table = (triples : List Triple) × Starts start triples loaded oracle table
 
+-- Those of a load's triples that weren't there stand with its commit, in each of their rows.
+abbrev pub StandAt : ℕ → List Triple → List Triple → Rows → Type 0
+StandAt commit triples loaded rows = (triple : Triple) → Contains loaded triple → (Contains triples triple → ⊥) →
+    (order : Order) → standing rows (triple_key order triple) ≡ Some ([], commit)
+
 -- the next number is the commit's, and the triples have joined
 pub record IsLoaded (start commit : ℕ) (triples loaded : List Triple) (oracle : Option Block) (table : Table) : Type 0 where
   pub commit_is : commit ≡ start + 1
   pub below : commit < 2 ^ 48
   pub after : List Triple
   pub joined : Joins triples after loaded
+  pub stand : StandAt commit triples loaded (row_at table)
   pub rests : Rests commit after oracle table
 
 -- there is no number for the commit, and the triples are as they were
