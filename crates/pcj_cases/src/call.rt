@@ -1,0 +1,98 @@
+use crate::answer::Answer;
+use crate::unanswered::Unanswered;
+use crate::{act, bytes, document, items, key, name, range, row, term, text, transcript};
+use pcj_term::Bytes;
+use std::alloc::Global;
+
+/// Makes the call that the word names, and adds its answer.
+pub(crate) fn answer(
+    alloc: Global,
+    out: &mut Answer,
+    call: &str,
+    arguments: &[Bytes],
+) -> Result<(), Unanswered> {
+    match call.split_once('_') {
+        Some(("is", _)) => text::class_case(out, call, arguments),
+        Some(("bytes", _)) => bytes::bytes_case(alloc, out, call, arguments),
+        Some(("items", _)) => items::items_case(alloc, out, call, arguments),
+        Some(("push", _)) => pushing(alloc, out, call, arguments),
+        Some(("copy", _)) => copying(alloc, out, call, arguments),
+        Some(("read", _)) => reading(alloc, out, call, arguments),
+        Some((_, "range")) => range::range_case(alloc, out, call, arguments),
+        Some((_, "at")) => row::read_case(alloc, out, call, arguments),
+        _ => making(alloc, out, call, arguments),
+    }
+}
+
+fn pushing(
+    alloc: Global,
+    out: &mut Answer,
+    call: &str,
+    arguments: &[Bytes],
+) -> Result<(), Unanswered> {
+    match call {
+        "push_term" => term::push_case(alloc, out, arguments),
+        _ => transcript::line_case(alloc, out, call, arguments),
+    }
+}
+
+fn copying(
+    alloc: Global,
+    out: &mut Answer,
+    call: &str,
+    arguments: &[Bytes],
+) -> Result<(), Unanswered> {
+    match call {
+        "copy_memory" => items::copy_memory_case(alloc, out, arguments),
+        "copy_name" => name::copy_case(alloc, out, arguments),
+        "copy_option" => items::copy_option_case(alloc, out, arguments),
+        "copy_order" => name::copy_order_case(alloc, out, arguments),
+        "copy_prewrite" => act::copy_prewrite_case(alloc, out, arguments),
+        "copy_range" => range::copy_case(alloc, out, arguments),
+        "copy_refusal" => document::copy_refusal_case(alloc, out, arguments),
+        "copy_term" => term::copy_case(alloc, out, arguments),
+        "copy_triple" => term::copy_triple_case(alloc, out, arguments),
+        _ => Err(Unanswered::NoCase),
+    }
+}
+
+fn reading(
+    alloc: Global,
+    out: &mut Answer,
+    call: &str,
+    arguments: &[Bytes],
+) -> Result<(), Unanswered> {
+    match call {
+        "read_document" => document::read_case(alloc, out, arguments),
+        "read_key" => name::read_case(alloc, out, arguments),
+        "read_long" => document::read_long_case(alloc, out, arguments),
+        "read_many" => document::read_many_case(alloc, out, arguments),
+        "read_term" => term::read_case(alloc, out, arguments),
+        _ => Err(Unanswered::NoCase),
+    }
+}
+
+fn making(
+    alloc: Global,
+    out: &mut Answer,
+    call: &str,
+    arguments: &[Bytes],
+) -> Result<(), Unanswered> {
+    match call {
+        "commit_of" => row::read_case(alloc, out, call, arguments),
+        "commit_row" => act::commit_case(alloc, out, arguments),
+        "integer_of" => term::integer_case(alloc, out, arguments),
+        "join_parts" => key::join_case(alloc, out, arguments),
+        "nt_number" => document::number_case(alloc, out, arguments),
+        "prefix_end" => key::prefix_case(alloc, out, arguments),
+        "prewrite" => act::prewrite_case(alloc, out, arguments),
+        "print_term" => term::print_case(alloc, out, arguments),
+        "roll_back_row" => act::roll_back_case(alloc, out, arguments),
+        "roll_forward_row" => act::roll_forward_case(alloc, out, arguments),
+        "split_parts" => key::split_case(alloc, out, arguments),
+        "triple_key" => name::triple_key_case(alloc, out, arguments),
+        "triple_rows" => name::triple_rows_case(alloc, out, arguments),
+        "write_key" => name::write_case(alloc, out, arguments),
+        _ => Err(Unanswered::NoCase),
+    }
+}

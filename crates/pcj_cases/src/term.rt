@@ -1,0 +1,194 @@
+use crate::answer::Answer;
+use crate::argument::{number, triple, word};
+use crate::unanswered::Unanswered;
+use pcj_term::{Bytes, Kind, Term, Triple, TryClone, integer_of, print_term, push_term, read_term};
+use std::alloc::Global;
+
+/// The term that fields spell: `iri` and its text, `blank` with a load and a label, `literal` and its text, `lang`
+/// with a text and a tag, or `typed` with a text and a datatype.
+fn spelled_term(alloc: Global, fields: &[Bytes]) -> Result<Term, Unanswered> {
+    match fields {
+        [kind, text] => one_part(alloc, word(kind), text),
+        [kind, first, second] => two_parts(alloc, word(kind), first, second),
+        _ => Err(Unanswered::NoCase),
+    }
+}
+
+fn one_part(alloc: Global, kind: &str, text: &Bytes) -> Result<Term, Unanswered> {
+    match kind {
+        "iri" => Ok(Term::Iri(text.try_clone(alloc)?)),
+        "literal" => literal(alloc, text, Kind::Plain),
+        _ => Err(Unanswered::NoCase),
+    }
+}
+
+fn two_parts(alloc: Global, kind: &str, first: &Bytes, second: &Bytes) -> Result<Term, Unanswered> {
+    let part = second.try_clone(alloc)?;
+    match kind {
+        "blank" => Ok(Term::Blank {
+            load: number(first)?,
+            label: part,
+        }),
+        "lang" => literal(alloc, first, Kind::Lang(part)),
+        "typed" => literal(alloc, first, Kind::Typed(part)),
+        _ => Err(Unanswered::NoCase),
+    }
+}
+
+fn literal(alloc: Global, text: &Bytes, kind: Kind) -> Result<Term, Unanswered> {
+    Ok(Term::Literal {
+        text: text.try_clone(alloc)?,
+        kind,
+    })
+}
+
+/// Adds the fields that spell a term.
+fn spell_term(alloc: Global, out: &mut Answer, term: &Term) -> Result<(), Unanswered> {
+    match term {
+        Term::Iri(iri) => {
+            out.word("iri")?;
+            out.bytes(iri.as_slice())
+        }
+        Term::Blank { load, label } => {
+            out.word("blank")?;
+            out.number(alloc, *load)?;
+            out.bytes(label.as_slice())
+        }
+        Term::Literal { text, kind } => spell_literal(out, text.as_slice(), kind),
+    }
+}
+
+fn spell_literal(out: &mut Answer, text: &[u8], kind: &Kind) -> Result<(), Unanswered> {
+    match kind {
+        Kind::Plain => {
+            out.word("literal")?;
+            out.bytes(text)
+        }
+        Kind::Lang(tag) => {
+            out.word("lang")?;
+            out.bytes(text)?;
+            out.bytes(tag.as_slice())
+        }
+        Kind::Typed(datatype) => {
+            out.word("typed")?;
+            out.bytes(text)?;
+            out.bytes(datatype.as_slice())
+        }
+    }
+}
+
+/// `print_term TERM`: the printed form.
+pub(crate) fn print_case(
+    alloc: Global,
+    out: &mut Answer,
+    arguments: &[Bytes],
+) -> Result<(), Unanswered> {
+    let term = spelled_term(alloc, arguments)?;
+    show_printed(alloc, out, &term)
+}
+
+/// Adds the printed form of a term.
+fn show_printed(alloc: Global, out: &mut Answer, term: &Term) -> Result<(), Unanswered> {
+    let printed = print_term(alloc, term)?;
+    out.bytes(printed.as_slice())
+}
+
+/// `push_term FRONT TERM`: the front with the printed form behind it.
+pub(crate) fn push_case(
+    alloc: Global,
+    out: &mut Answer,
+    arguments: &[Bytes],
+) -> Result<(), Unanswered> {
+    let [front, term @ ..] = arguments else {
+        return Err(Unanswered::NoCase);
+    };
+    let term = spelled_term(alloc, term)?;
+    show_behind(alloc, out, front, &term)
+}
+
+fn show_behind(
+    alloc: Global,
+    out: &mut Answer,
+    front: &Bytes,
+    term: &Term,
+) -> Result<(), Unanswered> {
+    let mut text = front.try_clone(alloc)?;
+    push_term(alloc, &mut text, term)?;
+    out.bytes(text.as_slice())
+}
+
+/// `copy_term TERM`: whether the copy equals the term, and the copy.
+pub(crate) fn copy_case(
+    alloc: Global,
+    out: &mut Answer,
+    arguments: &[Bytes],
+) -> Result<(), Unanswered> {
+    let term = spelled_term(alloc, arguments)?;
+    show_copy(alloc, out, &term)
+}
+
+fn show_copy(alloc: Global, out: &mut Answer, term: &Term) -> Result<(), Unanswered> {
+    let copy = term.try_clone(alloc)?;
+    out.flag(copy == *term)?;
+    spell_term(alloc, out, &copy)
+}
+
+/// `read_term BYTES`: the term that the bytes print, or `none`.
+pub(crate) fn read_case(
+    alloc: Global,
+    out: &mut Answer,
+    arguments: &[Bytes],
+) -> Result<(), Unanswered> {
+    let [printed] = arguments else {
+        return Err(Unanswered::NoCase);
+    };
+    match read_term(alloc, printed.as_slice())? {
+        Some(term) => spell_term(alloc, out, &term),
+        None => out.word("none"),
+    }
+}
+
+/// `integer_of TERM`: the term's value, or `none`.
+pub(crate) fn integer_case(
+    alloc: Global,
+    out: &mut Answer,
+    arguments: &[Bytes],
+) -> Result<(), Unanswered> {
+    let term = spelled_term(alloc, arguments)?;
+    show_integer(alloc, out, integer_of(&term))
+}
+
+fn show_integer(alloc: Global, out: &mut Answer, value: Option<i64>) -> Result<(), Unanswered> {
+    let Some(value) = value else {
+        return out.word("none");
+    };
+    let text = format!(in alloc; "{value}")?;
+    out.word(text.as_str())
+}
+
+/// `copy_triple SUBJECT PREDICATE OBJECT`, printed terms: whether the copy equals the triple, and the copy.
+pub(crate) fn copy_triple_case(
+    alloc: Global,
+    out: &mut Answer,
+    arguments: &[Bytes],
+) -> Result<(), Unanswered> {
+    let triple = triple(alloc, arguments)?;
+    show_triple_copy(alloc, out, &triple)
+}
+
+fn show_triple_copy(alloc: Global, out: &mut Answer, triple: &Triple) -> Result<(), Unanswered> {
+    let copy = triple.try_clone(alloc)?;
+    out.flag(copy == *triple)?;
+    printed_triple(alloc, out, &copy)
+}
+
+/// Adds three fields, the printed terms of a triple.
+pub(crate) fn printed_triple(
+    alloc: Global,
+    out: &mut Answer,
+    triple: &Triple,
+) -> Result<(), Unanswered> {
+    show_printed(alloc, out, &triple.subject)?;
+    show_printed(alloc, out, &triple.predicate)?;
+    show_printed(alloc, out, &triple.object)
+}
