@@ -35,6 +35,3 @@ pub use range::{
 pub use read::read_key;
 pub use task_name::TaskName;
 pub use write::{triple_key, write_key};
-
-#[cfg(test)]
-mod tests;

@@ -14,6 +14,3 @@ pub use join::join_parts;
 pub use order::{keys_are_injective, keys_keep_order, prefixes_are_ranges};
 pub use prefix::prefix_end;
 pub use split::split_parts;
-
-#[cfg(test)]
-mod tests;

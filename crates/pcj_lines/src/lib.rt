@@ -9,6 +9,3 @@ mod job;
 pub use answer::{push_no_query, push_row, push_rows};
 pub use ending::{push_refused_line, push_spent, push_usage};
 pub use job::{push_committed, push_loaded, push_refused, push_registered, push_taken};
-
-#[cfg(test)]
-mod tests;

@@ -24,6 +24,3 @@ pub use standing::{
     commits_stand_at_once, locks_name_one_primary, other_acts_keep_readings,
     readings_decide_what_stands, reads_give_what_is_seen, standing_puts_are_seen,
 };
-
-#[cfg(test)]
-mod tests;

@@ -20,8 +20,6 @@ mod name;
 mod place;
 mod reader;
 mod term;
-#[cfg(test)]
-mod tests;
 mod text;
 
 pub use document::{one_reading, read_document, valid_triples};

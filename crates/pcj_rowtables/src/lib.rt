@@ -4,6 +4,3 @@
 mod rows;
 
 pub use rows::triple_rows;
-
-#[cfg(test)]
-mod tests;

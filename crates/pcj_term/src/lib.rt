@@ -45,6 +45,3 @@ pub use term::Term;
 pub use triple::Triple;
 pub use try_clone::TryClone;
 pub use utf8::is_utf8;
-
-#[cfg(test)]
-mod tests;
