@@ -1,0 +1,41 @@
+//! Cases that neither a script nor a single call shows: faults in mid-stream and what they leave, walks and mutations of
+//! a table, oracles and loads that are cut short. README.md says how one is added.
+//!
+//! What speaks of a table is generic over `RowTable`, and `mem_table` runs it over a table in memory. Another table gets
+//! one more such file.
+#![tactic(auto)]
+
+#[cfg(test)]
+mod adapters;
+#[cfg(test)]
+mod change;
+#[cfg(test)]
+mod clock;
+#[cfg(test)]
+mod copies;
+#[cfg(test)]
+mod failing;
+#[cfg(test)]
+mod loads;
+#[cfg(test)]
+mod mem_scripts;
+#[cfg(test)]
+mod mem_table;
+#[cfg(test)]
+mod mutations;
+#[cfg(test)]
+mod oracles;
+#[cfg(test)]
+mod rows;
+#[cfg(test)]
+mod scripts;
+#[cfg(test)]
+mod standing;
+#[cfg(test)]
+mod streams;
+#[cfg(test)]
+mod texts;
+#[cfg(test)]
+mod told;
+#[cfg(test)]
+mod walks;

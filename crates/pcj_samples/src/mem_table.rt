@@ -1,0 +1,87 @@
+//! The cases of a table, over one in memory.
+
+use crate::{failing, mutations, walks};
+use crate::failing::fail_on_one;
+use crate::told::{Told, get};
+use pcj_memtable::MemTable;
+use pcj_term::{Items, Memory};
+use std::alloc::Global;
+
+/// A table without rows, none of whose calls fails.
+pub(crate) fn in_memory(alloc: Global) -> MemTable {
+    MemTable::new(alloc, Items::new(alloc))
+}
+
+/// A table without rows whose calls of these numbers fail.
+pub(crate) fn failing_at(alloc: Global, calls: &[u64]) -> Result<MemTable, Memory> {
+    Ok(MemTable::new(alloc, Items::from_vec(Vec::from_slice(alloc, calls)?)))
+}
+
+#[test]
+fn walks_go_from_key_to_key(rt: HostRuntime) {
+    walks::go_from_key_to_key(&rt, rt.alloc(), &mut in_memory(rt.alloc()));
+}
+
+#[test]
+fn walks_meet_locks_and_count(rt: HostRuntime) {
+    walks::meet_locks_and_count(&rt, rt.alloc(), &mut in_memory(rt.alloc()));
+}
+
+#[test]
+fn walks_see_what_was_there(rt: HostRuntime) {
+    walks::see_what_was_there(&rt, rt.alloc(), &mut in_memory(rt.alloc()));
+}
+
+#[test]
+fn mutations_guard_plain_values(rt: HostRuntime) {
+    mutations::guard_plain_values(&rt, rt.alloc(), &mut in_memory(rt.alloc()));
+}
+
+#[test]
+fn mutations_leave_no_empty_row(rt: HostRuntime) {
+    mutations::leave_no_empty_row(&rt, rt.alloc(), &mut in_memory(rt.alloc()));
+}
+
+#[test]
+fn updates_change_alone(rt: HostRuntime) {
+    mutations::change_alone(&rt, rt.alloc(), &mut in_memory(rt.alloc()));
+}
+
+#[test]
+fn locks_are_changed_in_pairs(rt: HostRuntime) {
+    mutations::change_locks_and_then(&rt, rt.alloc(), &mut in_memory(rt.alloc()));
+}
+
+#[test]
+fn values_are_changed_in_pairs(rt: HostRuntime) {
+    mutations::change_values_and_then(&rt, rt.alloc(), &mut in_memory(rt.alloc()));
+}
+
+#[test]
+fn a_first_call_fails(rt: HostRuntime) {
+    let Ok(mut table) = failing_at(rt.alloc(), &[1]) else {
+        panic!(rt; "no memory");
+    };
+    failing::fail_on_the_first(&rt, rt.alloc(), &mut table);
+    assert!(rt; get(&mut table, b"k") == Told::Row([3, 0, 0, 1]));
+}
+
+#[test]
+fn later_calls_fail(rt: HostRuntime) {
+    for call in 2..6 {
+        let Ok(mut table) = failing_at(rt.alloc(), &[call]) else {
+            panic!(rt; "no memory");
+        };
+        fail_on_one(&rt, rt.alloc(), &mut table, call as usize);
+        assert!(rt; get(&mut table, b"k") == Told::Row([3, 0, 0, 1]));
+    }
+}
+
+#[test]
+fn an_eleventh_call_fails(rt: HostRuntime) {
+    let Ok(mut table) = failing_at(rt.alloc(), &[11]) else {
+        panic!(rt; "no memory");
+    };
+    fail_on_one(&rt, rt.alloc(), &mut table, 11);
+    assert!(rt; get(&mut table, b"k") == Told::Failed);
+}
