@@ -13,8 +13,6 @@ mod sink;
 mod source;
 mod std_sink;
 mod std_source;
-#[cfg(test)]
-mod tests;
 
 pub use failing_calls::FailingCalls;
 pub use mem_sink::MemSink;

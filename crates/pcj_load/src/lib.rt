@@ -11,6 +11,3 @@ mod walk;
 
 pub use transaction::load_triples;
 pub use walk::triples_of;
-
-#[cfg(test)]
-mod tests;

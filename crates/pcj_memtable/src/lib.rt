@@ -9,6 +9,3 @@ mod read;
 mod walk;
 
 pub use mem_table::MemTable;
-
-#[cfg(test)]
-mod tests;

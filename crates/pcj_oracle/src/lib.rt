@@ -14,6 +14,3 @@ mod oracle;
 pub use error::OracleError;
 pub use law::{draws_change_the_clock_alone, numbers_rise};
 pub use oracle::Oracle;
-
-#[cfg(test)]
-mod tests;

@@ -14,6 +14,3 @@ mod stop;
 mod top;
 
 pub use top::replay;
-
-#[cfg(test)]
-mod tests;

@@ -1,7 +1,7 @@
 //! Copies of what owns memory: each holds what its source holds.
 
 use crate::change::Change;
-use crate::rows::full_row;
+use crate::rows::{CONDITIONS, full_row};
 use crate::told::numbers;
 use pcj_table::{Cond, Found, Lock, Mutated, Pair, Row, TableError, Update, Write};
 use pcj_term::{Bytes, TryClone};
@@ -146,10 +146,9 @@ fn copies_cond(alloc: Global, cond: Cond) -> bool {
 
 #[test]
 fn conditions_and_errors_are_copied(rt: HostRuntime) {
-    assert!(rt; copies_cond(rt.alloc(), Cond::NoLock));
-    assert!(rt; copies_cond(rt.alloc(), Cond::LockIs(3)));
-    assert!(rt; copies_cond(rt.alloc(), Cond::NoVersionFrom(7)));
-    assert!(rt; copies_cond(rt.alloc(), Cond::PlainBelow(8)));
+    for at in 0..11 {
+        assert!(rt; copies_cond(rt.alloc(), CONDITIONS[at]));
+    }
     assert!(rt; TableError::Failed.try_clone(rt.alloc()) == Ok(TableError::Failed));
     assert!(rt; TableError::Memory.try_clone(rt.alloc()) == Ok(TableError::Memory));
 }

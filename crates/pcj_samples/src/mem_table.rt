@@ -1,5 +1,9 @@
 //! The cases of a table, over one in memory.
 
+ghost use Rattle.std.specs.Prelude.{IfOk};
+ghost use Rattle.pcj_memtable.specs.Entries.{table_of};
+ghost use Rattle.pcj_replay.specs.Session.{IsFresh};
+
 use crate::{failing, mutations, walks};
 use crate::failing::fail_on_one;
 use crate::told::{Told, get};
@@ -8,12 +12,16 @@ use pcj_term::{Items, Memory};
 use std::alloc::Global;
 
 /// A table without rows, none of whose calls fails.
-pub(crate) fn in_memory(alloc: Global) -> MemTable {
+pub(crate) fn in_memory(alloc: Global) -> MemTable
+    ensures { IsFresh (table_of result.rows) }
+{
     MemTable::new(alloc, Items::new(alloc))
 }
 
 /// A table without rows whose calls of these numbers fail.
-pub(crate) fn failing_at(alloc: Global, calls: &[u64]) -> Result<MemTable, Memory> {
+pub(crate) fn failing_at(alloc: Global, calls: &[u64]) -> Result<MemTable, Memory>
+    ensures { IfOk result (λ table. IsFresh (table_of table.rows)) }
+{
     Ok(MemTable::new(alloc, Items::from_vec(Vec::from_slice(alloc, calls)?)))
 }
 

@@ -27,7 +27,7 @@ pub(crate) fn full_row(rt: &impl Abort, alloc: Global) -> Row {
     row
 }
 
-const CONDITIONS: [Cond; 11] = [
+pub(crate) const CONDITIONS: [Cond; 11] = [
     Cond::NoLock,
     Cond::LockIs(2),
     Cond::LockIs(3),
@@ -135,6 +135,7 @@ fn puts_and_plain_values_are_counted(rt: HostRuntime) {
     assert!(rt; !row.is_counted());
     set(&rt, rt.alloc(), &mut row, Change::Lock(3));
     assert!(rt; !row.is_counted());
+    set(&rt, rt.alloc(), &mut row, Change::Unlock);
     set(&rt, rt.alloc(), &mut row, Change::Put(5));
     assert!(rt; row.is_counted());
     set(&rt, rt.alloc(), &mut row, Change::Delete(8));

@@ -30,6 +30,3 @@ pub use table::RowTable;
 pub use update::Update;
 pub use version::Version;
 pub use write::Write;
-
-#[cfg(test)]
-mod tests;

@@ -28,6 +28,3 @@ pub use query::Query;
 pub use script::Script;
 pub use slot::Slot;
 pub use split::split_at_byte;
-
-#[cfg(test)]
-mod tests;

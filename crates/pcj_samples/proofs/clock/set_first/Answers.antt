@@ -1,4 +1,4 @@
-use Rattle.std.proofs.Common.{◌≡◌, ◌≤◌, ◌^◌, ℕ, List, [], ◌∷◌, Some, None, refl, ap, sym, subst, ◌∙◌}
+use Rattle.std.proofs.Common.{◌≡◌, ◌≤◌, ◌^◌, ℕ, List, [], ◌∷◌, Some, refl, ap, sym, subst, ◌∙◌}
 use Rattle.pcj_table.specs.declared.row.Row.{Row}
 use Rattle.pcj_table.specs.declared.mutated.Mutated.{Mutated}
 use Rattle.pcj_table.specs.declared.mutated.Mutated.TheVariants.{Applied}
@@ -10,14 +10,13 @@ use Rattle.pcj_mvcc.specs.Reading.{put}
 use Rattle.pcj_mvcc.proofs.Rows.{other_key, put_same, put_other, with_row_puts}
 use Rattle.pcj_sound.specs.Fit.{IsClockRow}
 use Rattle.pcj_sound.specs.Laws.{HasClockAlone}
-use Rattle.pcj_load.specs.Transaction.{IsAtRest}
-use Rattle.pcj_load.proofs.TransactionLaws.{alone_rests}
-use Rattle.pcj_load.proofs.tests.set_next.Goals as goal
+use Rattle.pcj_replay.specs.Session.{IsFresh}
+use Rattle.pcj_samples.proofs.clock.set_first.Goals as goal
 
-set_rests : (old new : Table) (number : ℕ) → HasClockAlone (row_at old) → 1 ≤ number → number ≤ 2 ^ 48 →
-    Mutates old clock_key [] (SetPlain (record { seq = number; value = Some [] }) ∷ []) Applied new → IsAtRest None new
-set_rests old new number alone first last mutates =
-    alone_rests new still (subst (λ (n : ℕ). 1 ≤ n) (sym stored) first) (subst (λ (n : ℕ). n ≤ 2 ^ 48) (sym stored) last)
+set_fresh : (old new : Table) (number : ℕ) → HasClockAlone (row_at old) → 1 ≤ number → number ≤ 2 ^ 48 →
+    Mutates old clock_key [] (SetPlain (record { seq = number; value = Some [] }) ∷ []) Applied new → IsFresh new
+set_fresh old new number alone first last mutates =
+    record { alone = still; first = subst (λ (n : ℕ). 1 ≤ n) (sym stored) first; last = subst (λ (n : ℕ). n ≤ 2 ^ 48) (sym stored) last }
   where
     row : Row
     row = updated (row_at old clock_key) (SetPlain (record { seq = number; value = Some [] }))
@@ -46,4 +45,4 @@ returns g c =
     let here = subst (λ (k : Key). Mutates old k [] (SetPlain (record { seq = c.args.number; value = Some c.new.result }) ∷ []) c.in_ok-mutate.field-0 new) at done in
     let empty = subst (λ (value : List ℕ). Mutates old clock_key [] (SetPlain (record { seq = c.args.number; value = Some value }) ∷ []) c.in_ok-mutate.field-0 new) c.new.ensures here in
     let applied = subst (λ (m : Mutated). Mutates old clock_key [] (SetPlain (record { seq = c.args.number; value = Some [] }) ∷ []) m new) c.in-Applied.is empty in
-    set_rests old new c.args.number c.requires.alone c.requires.first c.requires.last applied
+    set_fresh old new c.args.number c.requires.fresh.alone c.requires.first c.requires.last applied

@@ -4,7 +4,7 @@ use Rattle.pcj_term.specs.declared.term.Term.{Term}
 use Rattle.pcj_term.specs.declared.term.Term.TheVariants as terms
 use Rattle.pcj_term.specs.declared.triple.Triple.{Triple}
 use Rattle.pcj_term.specs.Triple.{same_bytes, same_term, same_triple}
-use Rattle.pcj_load.proofs.tests.pair.Goals as goal
+use Rattle.pcj_samples.proofs.loads.pair.Goals as goal
 
 and_false : (p q : Bool) → (p && q && false) ≡ false
 and_false true true = refl

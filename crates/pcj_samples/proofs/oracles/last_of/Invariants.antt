@@ -1,5 +1,5 @@
 use Rattle.pcj_oracle.specs.Clock.{IsClock}
-use Rattle.pcj_oracle.proofs.tests.last_of.Given as goal
+use Rattle.pcj_samples.proofs.oracles.last_of.Given as goal
 
 abbrev pub invariant-loop : goal.invariant-loop
 invariant-loop g l = IsClock l.oracle (g.T.RowTable.rows l.table)

@@ -1,7 +1,7 @@
 use Rattle.std.proofs.Common.{ap, ◌∙◌}
 use Rattle.pcj_term.specs.Iri.{is_iri_text}
 use Rattle.pcj_term.proofs.Iris.{absolute_text}
-use Rattle.pcj_load.proofs.tests.triple.Goals as goal
+use Rattle.pcj_samples.proofs.loads.triple.Goals as goal
 
 pub returns-clause-valid : goal.returns-clause-valid
 returns-clause-valid c = (
