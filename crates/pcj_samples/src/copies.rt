@@ -25,7 +25,9 @@ fn is_on_p(lock: &Lock) -> bool {
 }
 
 fn has_no_plain(row: &Row) -> bool {
-    row.plain.as_ref().is_some_and(|plain| plain.value.is_none())
+    row.plain
+        .as_ref()
+        .is_some_and(|plain| plain.value.is_none())
 }
 
 fn copies_row(alloc: Global, row: &Row) -> bool {

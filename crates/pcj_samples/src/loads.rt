@@ -148,8 +148,7 @@ fn fails<T: RowTable>(
 {
     match draw_start(oracle, table) {
         Ok(start) => {
-            load_triples(alloc, oracle, table, triples.as_slice(), start)
-                == Err(TableError::Failed)
+            load_triples(alloc, oracle, table, triples.as_slice(), start) == Err(TableError::Failed)
         }
         Err(error) => error == OracleError::Failed,
     }

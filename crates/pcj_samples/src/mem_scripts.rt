@@ -4,7 +4,9 @@ ghost use Rattle.std.specs.Prelude.{◌≤◌, ◌^◌};
 
 use crate::clock::set_first;
 use crate::mem_table::{failing_at, in_memory};
-use crate::oracles::{Drawn, LAST, draw_three, go_on_after_a_crash, grant_the_last_once, take_turns};
+use crate::oracles::{
+    Drawn, LAST, draw_three, go_on_after_a_crash, grant_the_last_once, take_turns,
+};
 use crate::{loads, scripts};
 use pcj_oracle::OracleError;
 use std::alloc::Global;
@@ -93,14 +95,7 @@ fn no_load_is_committed_after_the_last_number(rt: HostRuntime) {
 }
 
 /// A script ends with this status where this number is granted first, and this is written.
-fn ends_from(
-    rt: &impl Abort,
-    alloc: Global,
-    number: u64,
-    script: &[u8],
-    written: &[u8],
-    status: u8,
-)
+fn ends_from(rt: &impl Abort, alloc: Global, number: u64, script: &[u8], written: &[u8], status: u8)
     requires first { 1 ≤ number }
     requires last { number ≤ 2 ^ 48 }
 {
@@ -121,7 +116,8 @@ fn a_load_ends_where_no_number_is_left(rt: HostRuntime) {
     let cut = b"c1 load 281474976710654 0 triples\nc1 committed 281474976710655\nspent\n";
     ends_from(&rt, rt.alloc(), LAST - 1, script, cut, 6);
     // the refused line isn't reached
-    ends_from(&rt, rt.alloc(), LAST + 1, b"load c1\nend\nbogus\n", b"spent\n", 6);
+    let script = b"load c1\nend\nbogus\n";
+    ends_from(&rt, rt.alloc(), LAST + 1, script, b"spent\n", 6);
 }
 
 #[test]

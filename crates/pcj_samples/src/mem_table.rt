@@ -4,9 +4,9 @@ ghost use Rattle.std.specs.Prelude.{IfOk};
 ghost use Rattle.pcj_memtable.specs.Entries.{table_of};
 ghost use Rattle.pcj_replay.specs.Session.{IsFresh};
 
-use crate::{failing, mutations, walks};
 use crate::failing::fail_on_one;
 use crate::told::{Told, get};
+use crate::{failing, mutations, walks};
 use pcj_memtable::MemTable;
 use pcj_term::{Items, Memory};
 use std::alloc::Global;

@@ -94,7 +94,23 @@ pub(crate) fn replays<T: RowTable>(
 )
     requires { IsFresh (T.rows table.old) }
 {
-    ends(rt, alloc, table, &["replay"], script, WHOLE, status, written);
+    let words = &["replay"];
+    ends(rt, alloc, table, words, script, WHOLE, status, written);
+}
+
+/// The script over these streams ends with this status, and this is written.
+fn goes_over<T: RowTable>(
+    rt: &impl Abort,
+    alloc: Global,
+    table: &mut T,
+    streams: Streams,
+    status: u8,
+    written: &[u8],
+)
+    requires { IsFresh (T.rows table.old) }
+{
+    let words = &["replay"];
+    ends(rt, alloc, table, words, SCRIPT, streams, status, written);
 }
 
 /// Words other than `replay` write the usage line, also where a read would fail, and a front of it where a write does.
@@ -135,9 +151,9 @@ pub(crate) fn fail_at_a_read<T: RowTable>(rt: &impl Abort, alloc: Global, table:
         write: 0,
     };
     if call <= SCRIPT.len() as u64 + 1 {
-        ends(rt, alloc, table, &["replay"], SCRIPT, streams, 3, b"");
+        goes_over(rt, alloc, table, streams, 3, b"");
     } else {
-        ends(rt, alloc, table, &["replay"], SCRIPT, streams, 0, TRANSCRIPT);
+        goes_over(rt, alloc, table, streams, 0, TRANSCRIPT);
     }
 }
 
@@ -157,9 +173,9 @@ pub(crate) fn fail_at_a_write<T: RowTable>(
     };
     if before < TRANSCRIPT.len() {
         let (front, _) = TRANSCRIPT.split_at(before);
-        ends(rt, alloc, table, &["replay"], SCRIPT, streams, 4, front);
+        goes_over(rt, alloc, table, streams, 4, front);
     } else {
-        ends(rt, alloc, table, &["replay"], SCRIPT, streams, 0, TRANSCRIPT);
+        goes_over(rt, alloc, table, streams, 0, TRANSCRIPT);
     }
 }
 

@@ -102,13 +102,7 @@ fn next_row<T: RowTable>(table: &mut T, last: &mut Bytes) -> Option<Row> {
 }
 
 /// Adds one row to those that were met, and tells whether its calls were answered.
-fn meet<T: RowTable>(
-    alloc: Global,
-    table: &mut T,
-    key: &[u8],
-    row: &Row,
-    rows: &mut Rows,
-) -> bool {
+fn meet<T: RowTable>(alloc: Global, table: &mut T, key: &[u8], row: &Row, rows: &mut Rows) -> bool {
     rows.count(row);
     match (letter_of(alloc, key), stands(table, row)) {
         (Ok(letter), Some(true)) => {

@@ -113,11 +113,7 @@ pub(crate) fn next_is<T: RowTable>(
 }
 
 /// Whether the next row that is locked after a key has this one, or there is none.
-pub(crate) fn next_lock_is<T: RowTable>(
-    table: &mut T,
-    after: &[u8],
-    want: Option<&[u8]>,
-) -> bool {
+pub(crate) fn next_lock_is<T: RowTable>(table: &mut T, after: &[u8], want: Option<&[u8]>) -> bool {
     match table.next_lock(after) {
         Ok(found) => has_key(&found, want),
         Err(_) => false,
