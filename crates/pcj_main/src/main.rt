@@ -28,6 +28,9 @@
 //! command: a line on standard error says so, and the run is that of no words at all, which writes
 //! the usage line and ends with 2.
 //!
+//! For each of the statuses 3 to 7, and for words that are no command, a line on standard error says
+//! what happened. For a refused line of the script the transcript's last line says it.
+//!
 //! What standard input gives and standard output takes is outside every contract. The library's
 //! clauses speak of any source, any sink and any table, and are proved there; what is proved here is
 //! that each call meets the library's conditions, and that the program ends.
@@ -35,7 +38,7 @@
 
 use pcj_io::{StdSink, StdSource};
 use pcj_memtable::MemTable;
-use pcj_replay::replay;
+use pcj_replay::{is_replay, replay};
 use pcj_term::Items;
 use std::alloc::AllocError;
 use std::env;
@@ -43,7 +46,7 @@ use std::env::Env;
 use std::io::ErrorKind;
 use std::process::ExitCode;
 
-/// The status where memory runs out before the script is read.
+/// The status where memory runs out, also before the script is read.
 const OUT_OF_MEMORY: u8 = 5;
 
 /// The words of the command line after the program's name. Where one of them isn't UTF-8, standard
@@ -60,13 +63,35 @@ fn command_words(rt: &(impl Env + Eprint + AllocGlobal)) -> Result<Vec<String>, 
     }
 }
 
+/// What standard error is told of how a run ended. A run to the script's end needs no word, nor does a
+/// line of the script that was refused, since the transcript names it.
+fn complaint(status: u8, is_command: bool) -> Option<&'static str> {
+    match status {
+        2 if !is_command => Some("these words are no command; the usage line names those there are"),
+        3 => Some("standard input failed: nothing was carried out"),
+        4 => Some("standard output failed: the transcript is cut off"),
+        OUT_OF_MEMORY => Some("memory ran out: the transcript may be cut off"),
+        6 => Some("no timestamp is left: the script was carried out up to the line `spent`"),
+        7 => Some("the table failed: the transcript ends before the command that met the fault"),
+        _ => None,
+    }
+}
+
 fn main(rt: HostRuntime) -> ExitCode {
-    let Ok(words) = command_words(&rt) else {
-        return ExitCode::from(OUT_OF_MEMORY);
+    let (status, is_command) = match command_words(&rt) {
+        Ok(words) => {
+            let mut source = StdSource::new(rt.stdin());
+            let mut sink = StdSink::new(rt.stdout());
+            // none of its calls is to fail
+            let mut table = MemTable::new(rt.alloc(), Items::new(rt.alloc()));
+            let status = replay(rt.alloc(), &words, &mut source, &mut sink, &mut table);
+            (status, is_replay(&words))
+        }
+        Err(AllocError) => (OUT_OF_MEMORY, true),
     };
-    let mut source = StdSource::new(rt.stdin());
-    let mut sink = StdSink::new(rt.stdout());
-    // none of its calls is to fail
-    let mut table = MemTable::new(rt.alloc(), Items::new(rt.alloc()));
-    ExitCode::from(replay(rt.alloc(), &words, &mut source, &mut sink, &mut table))
+    if let Some(text) = complaint(status, is_command) {
+        // where standard error fails too, the status still tells
+        let _ = eprintln!(rt; "pcj: {text}");
+    }
+    ExitCode::from(status)
 }

@@ -13,4 +13,4 @@ mod session;
 mod stop;
 mod top;
 
-pub use top::replay;
+pub use top::{is_replay, replay};

@@ -101,7 +101,8 @@ fn outcome<S: Source, K: Sink, T: RowTable>(
     }
 }
 
-fn is_replay(words: &[String]) -> bool
+/// Whether the words of the command line, without the program's name, are those that `replay` carries out.
+pub fn is_replay(words: &[String]) -> bool
     ensures { IsTrue result ↔ IsReplay (map string_bytes words.now) }
 {
     match words {
