@@ -1,5 +1,5 @@
 -- What the rows of a fit table hold.
-use Rattle.std.proofs.Common.{◌≡◌, ◌≢◌, ◌⊎◌, inl, inr, ℕ, true, false, not, ◌&&◌, is_some, List, [], ◌∷◌, Option, Some, None, IfSome, refl, ap, sym, subst, ◌∙◌}
+use Rattle.std.proofs.Common.{◌≡◌, inl, inr, ℕ, false, List, [], ◌∷◌, Some, None, IfSome, refl, ap, sym, subst, ◌∙◌}
 use Rattle.std.specs.List.{All, Contains}
 use Rattle.std.specs.Option.{option_map}
 use Rattle.std.proofs.lemmas.Bool.{cases_Bool}
@@ -7,9 +7,8 @@ use Rattle.std.proofs.lemmas.List.Elements.{All-nil, All-contains}
 use Rattle.pcj_term.specs.declared.triple.Triple.{Triple}
 use Rattle.pcj_table.specs.declared.lock.Lock.{Lock}
 use Rattle.pcj_table.specs.declared.version.Version.{Version}
-use Rattle.pcj_table.specs.declared.plain.Plain.{Plain}
 use Rattle.pcj_table.specs.declared.row.Row.{Row}
-use Rattle.pcj_table.specs.Row.{no_row, has_nothing, is_empty, newest}
+use Rattle.pcj_table.specs.Row.{no_row, has_nothing, newest}
 use Rattle.pcj_table.specs.Table.{Key}
 use Rattle.pcj_table.proofs.RowLemmas.{no_row_is}
 use Rattle.pcj_encode.specs.declared.order.Order.{Order}
