@@ -17,7 +17,7 @@ use Rattle.pcj_table.specs.Table.{Table, row_at}
 use Rattle.pcj_oracle.specs.declared.block.Block.{Block}
 use Rattle.pcj_oracle.specs.Clock.{IsClock, next_number, stored_number}
 use Rattle.pcj_oracle.specs.Draw.{IsNumber, Keeps}
-use Rattle.pcj_sound.specs.Triples.{Joins}
+use Rattle.pcj_term.specs.Triple.{Joins}
 use Rattle.pcj_sound.specs.Fit.{FitTable, IsLoadBelow, AreLoadsBelow}
 use Rattle.pcj_sound.specs.Load.{Settled}
 use Rattle.pcj_sound.specs.Laws.{IsDrawn}
