@@ -11,10 +11,10 @@ abbrev pub AppendsPrefix : Option (List ℕ) → Option (List ℕ) → List ℕ 
 AppendsPrefix old new bytes = (front rest : List ℕ) × (bytes ≡ front ++ rest) × Appends old new front
 
 -- whether the answer is `Failed`
-abbrev pub has_failed : {T : Type 0} → Result T SinkError → Bool
-has_failed (Err Failed) = true
-has_failed (Err Memory) = false
-has_failed (Ok _) = false
+abbrev pub write_has_failed : {T : Type 0} → Result T SinkError → Bool
+write_has_failed (Err Failed) = true
+write_has_failed (Err Memory) = false
+write_has_failed (Ok _) = false
 
 -- the count of faults doesn't fall, and `Failed` is told only where it rose
 pub record HasSinkCause {T : Type 0} (before now : ℕ) (result : Result T SinkError) : Type 0 where

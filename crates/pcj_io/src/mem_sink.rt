@@ -1,6 +1,6 @@
 ghost use Rattle.std.specs.Prelude.{◌≡◌, ◌≤◌, ◌<◌, [], min, length, true, is_err, Some, IsTrue, IfOk, IsErrOf};
 ghost use Rattle.pcj_io.specs.declared.sink.SinkError.TheVariants.{Failed, Memory};
-ghost use Rattle.pcj_io.specs.Sink.{WritesAtMost, WriteAppends, HasSinkCause, has_failed};
+ghost use Rattle.pcj_io.specs.Sink.{WritesAtMost, WriteAppends, HasSinkCause, write_has_failed};
 ghost use Rattle.pcj_io.specs.Calls.{IsNextCall, no_calls};
 
 use crate::failing_calls::FailingCalls;
@@ -64,7 +64,7 @@ impl Sink for MemSink {
         ensures cause { HasSinkCause self.old.calls.faults self.new.calls.faults result }
         ensures memory { IsErrOf result SinkError.Memory → IsTrue true }
         ensures count { IfOk result (λ n. n ≡ min self.old.piece (length bytes.now)) }
-        ensures calls { IsNextCall self.old.calls self.new.calls (has_failed result) }
+        ensures calls { IsNextCall self.old.calls self.new.calls (write_has_failed result) }
         ensures piece { self.new.piece ≡ self.old.piece }
     {
         if self.calls.next_fails() {

@@ -12,7 +12,7 @@ use Rattle.std.proofs.lemmas.Str.{IsUtf8-from_ascii}
 use Rattle.std.proofs.lemmas.Str.Parse.{parse_plain, digit_from_value}
 use Rattle.pcj_term.proofs.IntegerText.{digits_tested, ascii_digits}
 use Rattle.pcj_term.proofs.OptionLemmas.{bind_some}
-use Rattle.pcj_term.specs.Reading.{after, before, cut, is_canonical, number_of}
+use Rattle.pcj_term.specs.Reading.{after, before, cut, is_canonical, number_of_digits}
 
 -- ---- one byte
 
@@ -154,35 +154,35 @@ canonical_large (d ∷ ds) all large =
     let high = le-leb d 57 (digit_from_value d all.0).1 in
     rw (low, high) refl
 
-pub number_parsed : {E : Type 0} (digits : List ℕ) (r : Result ℕ E) → is_canonical digits ≡ true → ParsesUnsigned 64 10 digits r → result_ok r ≡ number_of digits
-unfolding number_of
+pub number_parsed : {E : Type 0} (digits : List ℕ) (r : Result ℕ E) → is_canonical digits ≡ true → ParsesUnsigned 64 10 digits r → result_ok r ≡ number_of_digits digits
+unfolding number_of_digits
 number_parsed {E = E} digits (Ok n) h parses =
     let is = parse_plain digits_tested {E = E} 64 digits (Ok n) parses (canonical_no_plus digits h) in
     let fits = lt-ltb _ _ is.0.2 in
     rw (h, is.0.0, fits) (ap Some is.1)
 number_parsed {E = E} digits (Err e) h parses = by (all_ascii_digits digits && nat_lt (digits_value 10 digits) (2 ^ 64)) refl
   where
-    by : (v : Bool) → all_ascii_digits digits && nat_lt (digits_value 10 digits) (2 ^ 64) ≡ v → None ≡ number_of digits
+    by : (v : Bool) → all_ascii_digits digits && nat_lt (digits_value 10 digits) (2 ^ 64) ≡ v → None ≡ number_of_digits digits
     by true p =
         let parts = and_parts _ _ p in
         absurd (parse_plain digits_tested {E = E} 64 digits (Err e) parses (canonical_no_plus digits h) (parts.0, canonical_some digits h, ltb-true _ _ parts.1))
     by false p = rw (h, p) refl
 
-pub number_not_canonical : (digits : List ℕ) → is_canonical digits ≡ false → None ≡ number_of digits
-unfolding number_of
+pub number_not_canonical : (digits : List ℕ) → is_canonical digits ≡ false → None ≡ number_of_digits digits
+unfolding number_of_digits
 number_not_canonical digits h = rw h refl
 
-pub number_not_text : (digits : List ℕ) → ¬ (IsUtf8 digits) → None ≡ number_of digits
-unfolding number_of
+pub number_not_text : (digits : List ℕ) → ¬ (IsUtf8 digits) → None ≡ number_of_digits digits
+unfolding number_of_digits
 number_not_text digits h = by (all_ascii_digits digits) (is_canonical digits) refl refl
   where
-    by : (all canonical : Bool) → all_ascii_digits digits ≡ all → is_canonical digits ≡ canonical → None ≡ number_of digits
+    by : (all canonical : Bool) → all_ascii_digits digits ≡ all → is_canonical digits ≡ canonical → None ≡ number_of_digits digits
     by true canonical p q = absurd (h (IsUtf8-from_ascii digits (ascii_digits digits (digits_tested.to digits p))))
     by false true p q = rw (p, q) refl
     by false false p q = rw (p, q) refl
 
-pub number_takes : (digits : List ℕ) (n : ℕ) → number_of digits ≡ Some n → (n < 2 ^ 64) × (digits ≡ decimal n) × AllDigits 10 digits
-unfolding number_of
+pub number_takes : (digits : List ℕ) (n : ℕ) → number_of_digits digits ≡ Some n → (n < 2 ^ 64) × (digits ≡ decimal n) × AllDigits 10 digits
+unfolding number_of_digits
 number_takes digits n e =
     let found = cond_some (is_canonical digits && (all_ascii_digits digits && nat_lt (digits_value 10 digits) (2 ^ 64))) (digits_value 10 digits) n e in
     let outer = and_parts _ _ found.0 in
@@ -198,8 +198,8 @@ canonical_decimal (suc n) small = canonical_large (decimal (suc n)) (digits_test
 pub decimal_digits : (n : ℕ) → n < 2 ^ 64 → AllDigits 10 (decimal n)
 decimal_digits n small = digits_tested.to _ (digits_decimal digits_tested n small)
 
-pub number_again : (n : ℕ) → n < 2 ^ 64 → number_of (decimal n) ≡ Some n
-unfolding number_of
+pub number_again : (n : ℕ) → n < 2 ^ 64 → number_of_digits (decimal n) ≡ Some n
+unfolding number_of_digits
 number_again n small =
     let value : digits_value 10 (decimal n) ≡ n = digits_value-decimal digits_tested n small in
     let fits : nat_lt (digits_value 10 (decimal n)) (2 ^ 64) ≡ true = lt-ltb _ _ (omega (arith, value)) in

@@ -13,7 +13,7 @@ use Rattle.pcj_term.specs.Tag.{is_language_tag, is_lower_case}
 use Rattle.pcj_term.specs.Term.{printed, bracketed, node_name, quoted, escaped, suffix_of}
 use Rattle.pcj_term.specs.Valid.{IsValid, IsValidKind, xsd_string}
 use Rattle.pcj_term.specs.Read.{Reads}
-use Rattle.pcj_term.specs.Reading.{begins_with, after, before, cut, iri_of, number_of, node_of, text_at, kind_of, lang_of, typed_of, literal_of, term_of}
+use Rattle.pcj_term.specs.Reading.{begins_with, after, before, cut, iri_of, number_of_digits, node_of, text_at, kind_of_suffix, lang_of, typed_of, literal_of, term_of}
 use Rattle.pcj_term.specs.Order.{same_bytes}
 use Rattle.pcj_term.proofs.Parts.{after_takes, before_takes, before_again, cut_takes, cut_digits, number_takes, number_again, decimal_digits}
 use Rattle.pcj_term.proofs.Escapes.{text_takes, text_again}
@@ -47,7 +47,7 @@ node_takes bytes node e =
     let t = bind_some (after 58 colon.0) _ node colon.2 in
     let name = bind_some (after 116 t.0) _ node t.2 in
     let parts = bind_some (cut 120 name.0) _ node name.2 in
-    let load = bind_some (number_of parts.0.0) _ node parts.2 in
+    let load = bind_some (number_of_digits parts.0.0) _ node parts.2 in
     let label = cond_some (is_label parts.0.1) (load.0, parts.0.1) node load.2 in
     let number = number_takes parts.0.0 load.0 load.1 in
     let rest : name.0 ≡ decimal load.0 ++ 120 ∷ parts.0.1 = cut_takes 120 name.0 parts.0 parts.1 ∙ ap (λ (d : List ℕ). d ++ 120 ∷ parts.0.1) number.1 in
@@ -80,8 +80,8 @@ typed_takes brackets kind e =
         let other : datatype ≢ xsd_string = λ same. let yes = (same_bytes-Decides datatype xsd_string).1 same in absurd cc in
         subst (λ (k : Kind). IsValidKind k × (suffix_of k ≡ 94 ∷ 94 ∷ brackets)) (same_Some (Typed datatype) kind some) ((iri.0, other), ap (λ (t : List ℕ). 94 ∷ 94 ∷ t) iri.1)
 
-kind_takes : (suffix : List ℕ) (kind : Kind) → kind_of suffix ≡ Some kind → IsValidKind kind × (suffix_of kind ≡ suffix)
-unfolding kind_of
+kind_takes : (suffix : List ℕ) (kind : Kind) → kind_of_suffix suffix ≡ Some kind → IsValidKind kind × (suffix_of kind ≡ suffix)
+unfolding kind_of_suffix
 kind_takes [] kind e = subst (λ (k : Kind). IsValidKind k × (suffix_of k ≡ [])) (same_Some Plain kind e) (tt, refl)
 kind_takes (byte ∷ bytes) kind e = by (nat_eq byte 64) (nat_eq byte 94) refl refl
   where
@@ -97,8 +97,8 @@ kind_takes (byte ∷ bytes) kind e = by (nat_eq byte 64) (nat_eq byte 94) refl r
         (taken.0, taken.1 ∙ ap (λ (t : List ℕ). 94 ∷ t) (sym (after_takes 94 bytes second.0 second.1)) ∙ ap (λ (b : ℕ). b ∷ bytes) (sym (eqb-true byte 94 q)))
     by false false p q = let none = rw (p, q) at e in absurd cc
 
-kind_again : (kind : Kind) → IsValidKind kind → kind_of (suffix_of kind) ≡ Some kind
-unfolding kind_of
+kind_again : (kind : Kind) → IsValidKind kind → kind_of_suffix (suffix_of kind) ≡ Some kind
+unfolding kind_of_suffix
 kind_again Plain h = refl
 kind_again (Lang tag) h = rw (h.0, h.1) refl
 kind_again (Typed datatype) h =
@@ -112,11 +112,11 @@ literal_takes bytes term e =
     let parts = bind_some (text_at opened.0) _ term opened.2 in
     by parts.0 (is_utf8 parts.0.0) refl (after_takes 34 bytes opened.0 opened.1 ∙ ap (λ (t : List ℕ). 34 ∷ t) (text_takes opened.0 parts.0 parts.1)) parts.2
   where
-    by : (parts : List ℕ × List ℕ) (v : Bool) → is_utf8 parts.0 ≡ v → bytes ≡ 34 ∷ (escaped parts.0 ++ 34 ∷ parts.1) → cond (is_utf8 parts.0) (option_map (Literal parts.0) (kind_of parts.1)) None ≡ Some term → IsValid term × (printed term ≡ bytes)
+    by : (parts : List ℕ × List ℕ) (v : Bool) → is_utf8 parts.0 ≡ v → bytes ≡ 34 ∷ (escaped parts.0 ++ 34 ∷ parts.1) → cond (is_utf8 parts.0) (option_map (Literal parts.0) (kind_of_suffix parts.1)) None ≡ Some term → IsValid term × (printed term ≡ bytes)
     by parts false is whole there = let none = rw is at there in absurd cc
     by parts true is whole there =
         let some = rw is at there in
-        let kind = map_some (Literal parts.0) (kind_of parts.1) term some in
+        let kind = map_some (Literal parts.0) (kind_of_suffix parts.1) term some in
         let taken = kind_takes parts.1 kind.0 kind.1 in
         let text : quoted parts.0 ++ suffix_of kind.0 ≡ bytes =
         ap (λ (t : List ℕ). 34 ∷ t) (append_assoc (escaped parts.0) (34 ∷ []) (suffix_of kind.0) ∙ ap (λ (t : List ℕ). escaped parts.0 ++ 34 ∷ t) taken.1) ∙ sym whole in

@@ -51,8 +51,8 @@ is_canonical [] = false
 is_canonical (digit ∷ digits) = lies_between 49 57 digit || (digit == 48 && length digits == 0)
 
 -- the number that digits write, where it is a u64 and they have no leading zero
-unfoldable pub number_of : List ℕ → Option ℕ
-number_of digits =
+unfoldable pub number_of_digits : List ℕ → Option ℕ
+number_of_digits digits =
     if is_canonical digits && (all_ascii_digits digits && nat_lt (digits_value 10 digits) (2 ^ 64)) then Some (digits_value 10 digits) else None
 
 -- a blank node's load and its label there
@@ -62,7 +62,7 @@ node_of bytes = do
   t ← after 58 colon
   name ← after 116 t
   parts ← cut 120 name
-  load ← number_of parts.0
+  load ← number_of_digits parts.0
   if is_label parts.1 then Some (load, parts.1) else None
 
 abbrev pub blank_of : List ℕ → Option Term
@@ -111,9 +111,9 @@ abbrev pub typed_of : List ℕ → Option Kind
 typed_of brackets = iri_of brackets >>= (λ datatype. if same_bytes datatype xsd_string then None else Some (Typed datatype))
 
 -- the kind that follows a text
-unfoldable pub kind_of : List ℕ → Option Kind
-kind_of [] = Some Plain
-kind_of (byte ∷ bytes) =
+unfoldable pub kind_of_suffix : List ℕ → Option Kind
+kind_of_suffix [] = Some Plain
+kind_of_suffix (byte ∷ bytes) =
     if byte == 64 then lang_of bytes else
     if byte == 94 then (after 94 bytes >>= typed_of) else
     None
@@ -122,7 +122,7 @@ unfoldable pub literal_of : List ℕ → Option Term
 literal_of bytes = do
   inner ← after 34 bytes
   parts ← text_at inner
-  if is_utf8 parts.0 then option_map (Literal parts.0) (kind_of parts.1) else None
+  if is_utf8 parts.0 then option_map (Literal parts.0) (kind_of_suffix parts.1) else None
 
 -- the valid term whose printed form the bytes are
 unfoldable pub term_of : List ℕ → Option Term

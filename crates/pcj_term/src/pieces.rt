@@ -1,7 +1,7 @@
 ghost use Rattle.std.specs.Prelude.{◌≡◌, take, drop};
 ghost use Rattle.std.specs.List.{prefix_len};
 ghost use Rattle.std.specs.Option.{option_map, option_copied};
-ghost use Rattle.pcj_term.specs.Reading.{after, before, cut, iri_of, is_canonical, is_plain, number_of};
+ghost use Rattle.pcj_term.specs.Reading.{after, before, cut, iri_of, is_canonical, is_plain, number_of_digits};
 
 use crate::iri::is_absolute_iri;
 
@@ -71,8 +71,8 @@ pub(crate) fn iri_of(bytes: &[u8]) -> Option<&[u8]>
 }
 
 /// The number that digits write, where they are those that a `u64` is printed with.
-pub(crate) fn number_of(digits: &[u8]) -> Option<u64>
-    ensures { result ≡ number_of digits.now }
+pub(crate) fn number_of_digits(digits: &[u8]) -> Option<u64>
+    ensures { result ≡ number_of_digits digits.now }
 {
     if !is_canonical(digits) {
         return None;

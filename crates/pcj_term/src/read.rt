@@ -2,10 +2,10 @@ ghost use Rattle.std.specs.Prelude.{◌≡◌, IfOk};
 ghost use Rattle.std.specs.Option.{option_map};
 ghost use Rattle.pcj_term.specs.declared.term.Term.TheVariants.{Iri};
 ghost use Rattle.pcj_term.specs.Read.{Reads};
-ghost use Rattle.pcj_term.specs.Reading.{term_of, iri_of, node_of, blank_of, literal_of, kind_of, lang_of, typed_of};
+ghost use Rattle.pcj_term.specs.Reading.{term_of, iri_of, node_of, blank_of, literal_of, kind_of_suffix, lang_of, typed_of};
 
 use crate::label::is_label;
-use crate::pieces::{after, cut, iri_of, number_of};
+use crate::pieces::{after, cut, iri_of, number_of_digits};
 use crate::read_text::text_at;
 use crate::tag::{is_language_tag, is_lower_case};
 use crate::utf8::is_utf8;
@@ -59,7 +59,7 @@ fn node_of(bytes: &[u8]) -> Option<(u64, &[u8])>
 {
     let name = after(after(after(bytes, b'_')?, b':')?, b't')?;
     let (digits, label) = cut(name, b'x')?;
-    let load = number_of(digits)?;
+    let load = number_of_digits(digits)?;
     if is_label(label) {
         Some((load, label))
     } else {
@@ -80,15 +80,15 @@ fn literal_of(alloc: Global, bytes: &[u8]) -> Result<Option<Term>, Memory>
     if !is_utf8(text.as_slice()) {
         return Ok(None);
     }
-    match kind_of(alloc, suffix)? {
+    match kind_of_suffix(alloc, suffix)? {
         Some(kind) => Ok(Some(Term::Literal { text, kind })),
         None => Ok(None),
     }
 }
 
-#[tactic(auto, unfolding(crate::specs::Reading::kind_of))]
-fn kind_of(alloc: Global, suffix: &[u8]) -> Result<Option<Kind>, Memory>
-    ensures { IfOk result (λ kind. kind ≡ kind_of suffix.now) }
+#[tactic(auto, unfolding(crate::specs::Reading::kind_of_suffix))]
+fn kind_of_suffix(alloc: Global, suffix: &[u8]) -> Result<Option<Kind>, Memory>
+    ensures { IfOk result (λ kind. kind ≡ kind_of_suffix suffix.now) }
 {
     match suffix {
         [] => Ok(Some(Kind::Plain)),

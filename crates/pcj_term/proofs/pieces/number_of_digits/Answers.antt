@@ -1,7 +1,7 @@
 use Rattle.std.proofs.Common.{◌∙◌, sym, subst}
 use Rattle.std.specs.Str.Parse.{ParsesUnsigned}
 use Rattle.pcj_term.proofs.Parts.{number_parsed, number_not_canonical, number_not_text}
-use Rattle.pcj_term.proofs.pieces.number_of.Goals as goal
+use Rattle.pcj_term.proofs.pieces.number_of_digits.Goals as goal
 
 pub returns-then-not-is_canonical : goal.returns-then-not-is_canonical
 returns-then-not-is_canonical c = number_not_canonical c.args.digits.now (sym c.is_canonical.ensures ∙ c.if-not-is_canonical.true)
