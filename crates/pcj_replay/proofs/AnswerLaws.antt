@@ -13,7 +13,6 @@ use Rattle.pcj_transcript.specs.Transcript.{State}
 use Rattle.pcj_replay.specs.declared.response.Response.TheVariants.{Whole, Spent}
 use Rattle.pcj_replay.specs.declared.session.Session.{Session}
 use Rattle.pcj_replay.specs.declared.stop.Stop.{Stop}
-use Rattle.pcj_replay.specs.declared.stop.Stop.TheVariants as stops
 use Rattle.pcj_replay.specs.Stop.{stop_of, table_stop}
 use Rattle.pcj_replay.specs.Session.{Answered, IsBrokenOff}
 use Rattle.pcj_replay.specs.Run.{WritesReply, WritesSpent, WritesPart, WriteStops}

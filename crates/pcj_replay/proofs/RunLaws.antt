@@ -9,8 +9,6 @@ use Rattle.pcj_oracle.specs.Clock.{stored_number}
 use Rattle.pcj_load.proofs.TransactionLaws.{next_stored}
 use Rattle.pcj_transcript.specs.declared.command.Command.{Command}
 use Rattle.pcj_transcript.specs.Transcript.{State, start_state, Reply, Run, Transcript, Replies, printed, printed_lines}
-use Rattle.pcj_replay.specs.declared.run.Ran.{Ran}
-use Rattle.pcj_replay.specs.declared.run.Ran.TheVariants as ran
 use Rattle.pcj_replay.specs.declared.session.Session.{Session}
 use Rattle.pcj_replay.specs.declared.stop.Stop.{Stop}
 use Rattle.pcj_replay.specs.declared.stop.Stop.TheVariants as stops
