@@ -1,5 +1,5 @@
 -- What the rows of a fit table hold.
-use Rattle.std.proofs.Common.{◌≡◌, inl, inr, ℕ, false, List, [], ◌∷◌, Some, None, IfSome, refl, ap, sym, subst, ◌∙◌}
+use Rattle.std.proofs.Common.{◌≡◌, inl, inr, ℕ, false, List, [], ◌∷◌, Some, None, refl, ap, sym, subst, ◌∙◌}
 use Rattle.std.specs.List.{All, Contains}
 use Rattle.std.specs.Option.{option_map}
 use Rattle.std.proofs.lemmas.Bool.{cases_Bool}
@@ -16,7 +16,7 @@ use Rattle.pcj_oracle.specs.Clock.{clock_key}
 use Rattle.pcj_rowtables.specs.Rows.{triple_key}
 use Rattle.pcj_mvcc.specs.Reading.{Rows, Put, standing, put_of}
 use Rattle.pcj_mvcc.proofs.Laws.{read_unlocked}
-use Rattle.pcj_sound.specs.Fit.{IsPutBelow, IsLockBelow, IsTripleRow, IsClockRow, Decodes, HasVersion, HasLock}
+use Rattle.pcj_sound.specs.Fit.{IsPutBelow, IsTripleRow, IsClockRow, Decodes, HasVersion}
 use Rattle.pcj_term.proofs.ListLemmas.{nothing_in, first_there, later_there}
 use Rattle.pcj_sound.proofs.Keys.{not_clock}
 
@@ -40,12 +40,6 @@ pub version_below : (next : ℕ) (rows : Rows) (version : Version) → Decodes n
 version_below next rows version decodes held = elim (decodes held.0 (version_held (rows held.0) version held.1)) [
   | inl clock ↦ absurd (nothing_in version (subst (λ vs. Contains vs version) clock.1.versions held.1))
   | inr triple ↦ All-contains (IsPutBelow next) (rows held.0).versions version triple.1.versions held.1
-]
-
-pub lock_below : (next : ℕ) (rows : Rows) (lock : Lock) → Decodes next rows → HasLock rows lock → IsLockBelow next lock
-lock_below next rows lock decodes held = elim (decodes held.0 (lock_held (rows held.0) lock held.1)) [
-  | inl clock ↦ absurd (let same : None ≡ Some lock = sym clock.1.lock ∙ held.1 in cc)
-  | inr triple ↦ subst (λ l. IfSome l (IsLockBelow next)) held.1 triple.1.lock
 ]
 
 pub clock_row : (next : ℕ) (rows : Rows) → Decodes next rows → IsClockRow (rows clock_key)
