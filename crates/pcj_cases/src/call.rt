@@ -44,14 +44,14 @@ fn copying(
 ) -> Result<(), Unanswered> {
     match call {
         "copy_memory" => items::copy_memory_case(alloc, out, arguments),
-        "copy_name" => name::copy_case(alloc, out, arguments),
+        "copy_name" => name::name_case(alloc, out, call, arguments),
         "copy_option" => items::copy_option_case(alloc, out, arguments),
         "copy_order" => name::copy_order_case(alloc, out, arguments),
         "copy_prewrite" => act::copy_prewrite_case(alloc, out, arguments),
         "copy_range" => range::copy_case(alloc, out, arguments),
         "copy_refusal" => document::copy_refusal_case(alloc, out, arguments),
-        "copy_term" => term::copy_case(alloc, out, arguments),
-        "copy_triple" => term::copy_triple_case(alloc, out, arguments),
+        "copy_term" => term::term_case(alloc, out, call, arguments),
+        "copy_triple" => term::triple_case(alloc, out, call, arguments),
         _ => Err(Unanswered::NoCase),
     }
 }
@@ -81,18 +81,17 @@ fn making(
     match call {
         "commit_of" => row::read_case(alloc, out, call, arguments),
         "commit_row" => act::commit_case(alloc, out, arguments),
-        "integer_of" => term::integer_case(alloc, out, arguments),
+        "integer_of" | "print_term" => term::term_case(alloc, out, call, arguments),
         "join_parts" => key::join_case(alloc, out, arguments),
         "nt_number" => document::number_case(alloc, out, arguments),
         "prefix_end" => key::prefix_case(alloc, out, arguments),
         "prewrite" => act::prewrite_case(alloc, out, arguments),
-        "print_term" => term::print_case(alloc, out, arguments),
         "roll_back_row" => act::roll_back_case(alloc, out, arguments),
         "roll_forward_row" => act::roll_forward_case(alloc, out, arguments),
         "split_parts" => key::split_case(alloc, out, arguments),
         "triple_key" => name::triple_key_case(alloc, out, arguments),
-        "triple_rows" => name::triple_rows_case(alloc, out, arguments),
-        "write_key" => name::write_case(alloc, out, arguments),
+        "triple_rows" => term::triple_case(alloc, out, call, arguments),
+        "write_key" => name::name_case(alloc, out, call, arguments),
         _ => Err(Unanswered::NoCase),
     }
 }

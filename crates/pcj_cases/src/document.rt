@@ -1,8 +1,9 @@
 use crate::answer::Answer;
 use crate::argument::{number, size, word};
+use crate::term::printed_triple;
 use crate::unanswered::Unanswered;
 use pcj_ntriples::{NtError, NtKind, NtRefusal, nt_number, read_document};
-use pcj_term::{Bytes, Items, Memory, Triple, TryClone, push_term};
+use pcj_term::{Bytes, Items, Memory, Triple, TryClone};
 use std::alloc::Global;
 
 /// The triples of a document, or its refusal, which is told.
@@ -28,7 +29,7 @@ fn refused(alloc: Global, out: &mut Answer, error: NtError) -> Result<(), Unansw
     out.number(alloc, u64::from(nt_number(error.kind)))
 }
 
-/// `read_document LOAD TEXT`: `triples` and the line of each, or `refused` with the line and the number of the kind.
+/// `read_document LOAD TEXT`: `triples` and the printed terms of each, or `refused` with the line and the number of the kind.
 pub(crate) fn read_case(
     alloc: Global,
     out: &mut Answer,
@@ -38,32 +39,17 @@ pub(crate) fn read_case(
         return Err(Unanswered::NoCase);
     };
     match read(alloc, out, text.as_slice(), number(load)?)? {
-        Some(triples) => lines(alloc, out, triples.as_slice()),
+        Some(triples) => show(alloc, out, triples.as_slice()),
         None => Ok(()),
     }
 }
 
-fn lines(alloc: Global, out: &mut Answer, triples: &[Triple]) -> Result<(), Unanswered> {
+fn show(alloc: Global, out: &mut Answer, triples: &[Triple]) -> Result<(), Unanswered> {
     out.word("triples")?;
     for triple in triples {
-        line(alloc, out, triple)?;
+        printed_triple(alloc, out, triple)?;
     }
     Ok(())
-}
-
-fn line(alloc: Global, out: &mut Answer, triple: &Triple) -> Result<(), Unanswered> {
-    let mut text = Bytes::new(alloc);
-    push_line(alloc, &mut text, triple)?;
-    out.bytes(text.as_slice())
-}
-
-fn push_line(alloc: Global, text: &mut Bytes, triple: &Triple) -> Result<(), Memory> {
-    push_term(alloc, text, &triple.subject)?;
-    text.push(b' ')?;
-    push_term(alloc, text, &triple.predicate)?;
-    text.push(b' ')?;
-    push_term(alloc, text, &triple.object)?;
-    text.extend_from_slice(b" .")
 }
 
 /// `read_long LOAD BEFORE OPENING CLOSING AFTER LENGTH`: a line is made of a term between two texts and read. The

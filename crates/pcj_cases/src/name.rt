@@ -14,24 +14,75 @@ fn spelled_name(alloc: Global, fields: &[Bytes]) -> Result<KeyName, Unanswered> 
     let [kind, fields @ ..] = fields else {
         return Err(Unanswered::NoCase);
     };
-    match word(kind) {
-        "clock" => clock(fields),
-        "triple" => triple_row(alloc, fields),
-        "node" => node_row(alloc, fields),
-        "group" => group(alloc, fields),
-        "member" => member(alloc, fields),
-        "registration" => registration(fields),
-        "name" => query_name(alloc, fields),
-        "pattern" => pattern(fields),
-        "task" => Ok(KeyName::Task(spelled_task(alloc, fields)?)),
-        "export" => export(alloc, fields),
+    match (word(kind), fields) {
+        ("clock", []) => Ok(KeyName::Clock),
+        ("triple", [first, terms @ ..]) => Ok(KeyName::Triple {
+            order: order(first)?,
+            triple: triple(alloc, terms)?,
+        }),
+        ("name", [name]) => Ok(KeyName::Name(name.try_clone(alloc)?)),
+        ("task", fields) => Ok(KeyName::Task(spelled_task(alloc, fields)?)),
+        (kind, [registration, fields @ ..]) => {
+            registered_name(alloc, kind, number(registration)?, fields)
+        }
         _ => Err(Unanswered::NoCase),
     }
 }
 
-fn clock(fields: &[Bytes]) -> Result<KeyName, Unanswered> {
-    match fields {
-        [] => Ok(KeyName::Clock),
+/// The name that is of a registration, by what its kind has besides.
+fn registered_name(
+    alloc: Global,
+    kind: &str,
+    registration: u64,
+    fields: &[Bytes],
+) -> Result<KeyName, Unanswered> {
+    match (kind, fields) {
+        ("node", [at, cells @ ..]) => Ok(KeyName::Node {
+            registration,
+            node: node(at)?,
+            cells: list(alloc, cells)?,
+        }),
+        ("group", cells) => Ok(KeyName::Group {
+            registration,
+            cells: list(alloc, cells)?,
+        }),
+        ("member", [cells @ .., term]) => Ok(KeyName::Member {
+            registration,
+            cells: list(alloc, cells)?,
+            term: term.try_clone(alloc)?,
+        }),
+        ("registration", []) => Ok(KeyName::Registration(registration)),
+        ("pattern", [at]) => Ok(KeyName::Pattern {
+            registration,
+            node: node(at)?,
+        }),
+        ("export", cells) => Ok(KeyName::Export {
+            registration,
+            cells: list(alloc, cells)?,
+        }),
+        _ => Err(Unanswered::NoCase),
+    }
+}
+
+fn spelled_task(alloc: Global, fields: &[Bytes]) -> Result<TaskName, Unanswered> {
+    let [kind, fields @ ..] = fields else {
+        return Err(Unanswered::NoCase);
+    };
+    match (word(kind), fields) {
+        ("triple", terms) => Ok(TaskName::Triple(triple(alloc, terms)?)),
+        ("backfill", [registration, at]) => Ok(TaskName::Backfill {
+            registration: number(registration)?,
+            node: node(at)?,
+        }),
+        ("row", [registration, at, cells @ ..]) => Ok(TaskName::Row {
+            registration: number(registration)?,
+            node: node(at)?,
+            cells: list(alloc, cells)?,
+        }),
+        ("export", [registration, cells @ ..]) => Ok(TaskName::Export {
+            registration: number(registration)?,
+            cells: list(alloc, cells)?,
+        }),
         _ => Err(Unanswered::NoCase),
     }
 }
@@ -51,126 +102,6 @@ fn order_word(order: Order) -> &'static str {
         Order::Pos => "pos",
         Order::Osp => "osp",
     }
-}
-
-fn triple_row(alloc: Global, fields: &[Bytes]) -> Result<KeyName, Unanswered> {
-    let [first, terms @ ..] = fields else {
-        return Err(Unanswered::NoCase);
-    };
-    Ok(KeyName::Triple {
-        order: order(first)?,
-        triple: triple(alloc, terms)?,
-    })
-}
-
-fn node_row(alloc: Global, fields: &[Bytes]) -> Result<KeyName, Unanswered> {
-    let [registration, at, cells @ ..] = fields else {
-        return Err(Unanswered::NoCase);
-    };
-    Ok(KeyName::Node {
-        registration: number(registration)?,
-        node: node(at)?,
-        cells: list(alloc, cells)?,
-    })
-}
-
-fn group(alloc: Global, fields: &[Bytes]) -> Result<KeyName, Unanswered> {
-    let [registration, cells @ ..] = fields else {
-        return Err(Unanswered::NoCase);
-    };
-    Ok(KeyName::Group {
-        registration: number(registration)?,
-        cells: list(alloc, cells)?,
-    })
-}
-
-fn member(alloc: Global, fields: &[Bytes]) -> Result<KeyName, Unanswered> {
-    let [registration, cells @ .., term] = fields else {
-        return Err(Unanswered::NoCase);
-    };
-    Ok(KeyName::Member {
-        registration: number(registration)?,
-        cells: list(alloc, cells)?,
-        term: term.try_clone(alloc)?,
-    })
-}
-
-fn registration(fields: &[Bytes]) -> Result<KeyName, Unanswered> {
-    match fields {
-        [registration] => Ok(KeyName::Registration(number(registration)?)),
-        _ => Err(Unanswered::NoCase),
-    }
-}
-
-fn query_name(alloc: Global, fields: &[Bytes]) -> Result<KeyName, Unanswered> {
-    match fields {
-        [name] => Ok(KeyName::Name(name.try_clone(alloc)?)),
-        _ => Err(Unanswered::NoCase),
-    }
-}
-
-fn pattern(fields: &[Bytes]) -> Result<KeyName, Unanswered> {
-    match fields {
-        [registration, at] => Ok(KeyName::Pattern {
-            registration: number(registration)?,
-            node: node(at)?,
-        }),
-        _ => Err(Unanswered::NoCase),
-    }
-}
-
-fn export(alloc: Global, fields: &[Bytes]) -> Result<KeyName, Unanswered> {
-    let [registration, cells @ ..] = fields else {
-        return Err(Unanswered::NoCase);
-    };
-    Ok(KeyName::Export {
-        registration: number(registration)?,
-        cells: list(alloc, cells)?,
-    })
-}
-
-fn spelled_task(alloc: Global, fields: &[Bytes]) -> Result<TaskName, Unanswered> {
-    let [kind, fields @ ..] = fields else {
-        return Err(Unanswered::NoCase);
-    };
-    match word(kind) {
-        "triple" => Ok(TaskName::Triple(triple(alloc, fields)?)),
-        "backfill" => backfill(fields),
-        "row" => row_task(alloc, fields),
-        "export" => export_task(alloc, fields),
-        _ => Err(Unanswered::NoCase),
-    }
-}
-
-fn backfill(fields: &[Bytes]) -> Result<TaskName, Unanswered> {
-    match fields {
-        [registration, at] => Ok(TaskName::Backfill {
-            registration: number(registration)?,
-            node: node(at)?,
-        }),
-        _ => Err(Unanswered::NoCase),
-    }
-}
-
-fn row_task(alloc: Global, fields: &[Bytes]) -> Result<TaskName, Unanswered> {
-    let [registration, at, cells @ ..] = fields else {
-        return Err(Unanswered::NoCase);
-    };
-    Ok(TaskName::Row {
-        registration: number(registration)?,
-        node: node(at)?,
-        cells: list(alloc, cells)?,
-    })
-}
-
-fn export_task(alloc: Global, fields: &[Bytes]) -> Result<TaskName, Unanswered> {
-    let [registration, cells @ ..] = fields else {
-        return Err(Unanswered::NoCase);
-    };
-    Ok(TaskName::Export {
-        registration: number(registration)?,
-        cells: list(alloc, cells)?,
-    })
 }
 
 /// Adds the fields that spell a name.
@@ -271,14 +202,19 @@ fn without_cells(
     }
 }
 
-/// `write_key NAME`: the name's key.
-pub(crate) fn write_case(
+/// `write_key NAME`: the name's key. `copy_name NAME`: the copy.
+pub(crate) fn name_case(
     alloc: Global,
     out: &mut Answer,
+    call: &str,
     arguments: &[Bytes],
 ) -> Result<(), Unanswered> {
     let name = spelled_name(alloc, arguments)?;
-    show_key(out, write_key(alloc, &name))
+    match call {
+        "write_key" => show_key(out, write_key(alloc, &name)),
+        "copy_name" => show_name(alloc, out, name.try_clone(alloc).map(Some)),
+        _ => Err(Unanswered::NoCase),
+    }
 }
 
 /// Adds a key that was made.
@@ -287,34 +223,28 @@ fn show_key(out: &mut Answer, key: Result<Bytes, Memory>) -> Result<(), Unanswer
     out.bytes(key.as_slice())
 }
 
+/// Adds a name that was read or made, or `none`.
+fn show_name(
+    alloc: Global,
+    out: &mut Answer,
+    name: Result<Option<KeyName>, Memory>,
+) -> Result<(), Unanswered> {
+    match name? {
+        Some(name) => spell_name(alloc, out, &name),
+        None => out.word("none"),
+    }
+}
+
 /// `read_key KEY`: the name that has the key, or `none`.
 pub(crate) fn read_case(
     alloc: Global,
     out: &mut Answer,
     arguments: &[Bytes],
 ) -> Result<(), Unanswered> {
-    let [key] = arguments else {
-        return Err(Unanswered::NoCase);
-    };
-    match read_key(alloc, key.as_slice())? {
-        Some(name) => spell_name(alloc, out, &name),
-        None => out.word("none"),
+    match arguments {
+        [key] => show_name(alloc, out, read_key(alloc, key.as_slice())),
+        _ => Err(Unanswered::NoCase),
     }
-}
-
-/// `copy_name NAME`: the copy.
-pub(crate) fn copy_case(
-    alloc: Global,
-    out: &mut Answer,
-    arguments: &[Bytes],
-) -> Result<(), Unanswered> {
-    let name = spelled_name(alloc, arguments)?;
-    show_copy(alloc, out, &name)
-}
-
-fn show_copy(alloc: Global, out: &mut Answer, name: &KeyName) -> Result<(), Unanswered> {
-    let copy = name.try_clone(alloc)?;
-    spell_name(alloc, out, &copy)
 }
 
 /// `copy_order ORDER`: the copy.
@@ -344,17 +274,12 @@ pub(crate) fn triple_key_case(
     show_key(out, triple_key(alloc, order, &triple))
 }
 
-/// `triple_rows SUBJECT PREDICATE OBJECT`, printed terms: the keys of the triple's rows.
-pub(crate) fn triple_rows_case(
+/// Adds the keys of a triple's rows.
+pub(crate) fn show_rows(
     alloc: Global,
     out: &mut Answer,
-    arguments: &[Bytes],
+    triple: &Triple,
 ) -> Result<(), Unanswered> {
-    let triple = triple(alloc, arguments)?;
-    show_rows(alloc, out, &triple)
-}
-
-fn show_rows(alloc: Global, out: &mut Answer, triple: &Triple) -> Result<(), Unanswered> {
     let keys = triple_rows(alloc, triple)?;
     each(out, keys.as_slice())
 }

@@ -58,10 +58,20 @@ pub(crate) fn read_case(
     };
     let at = number(at)?;
     let row = row(alloc, fields)?;
+    show_read(alloc, out, call, &row, at)
+}
+
+fn show_read(
+    alloc: Global,
+    out: &mut Answer,
+    call: &str,
+    row: &Row,
+    at: u64,
+) -> Result<(), Unanswered> {
     match call {
-        "commit_of" => show_commit(alloc, out, commit_of(&row, at)),
-        "lock_at" => show_lock_at(alloc, out, &row, at),
-        "version_at" => show_version_at(alloc, out, &row, at),
+        "commit_of" => show_commit(alloc, out, commit_of(row, at)),
+        "lock_at" => show_lock_at(alloc, out, row, at),
+        "version_at" => show_version_at(alloc, out, row, at),
         _ => Err(Unanswered::NoCase),
     }
 }

@@ -1,5 +1,6 @@
 use crate::answer::Answer;
 use crate::argument::{number, triple, word};
+use crate::name::show_rows;
 use crate::unanswered::Unanswered;
 use pcj_term::{Bytes, Kind, Term, Triple, TryClone, integer_of, print_term, push_term, read_term};
 use std::alloc::Global;
@@ -77,14 +78,21 @@ fn spell_literal(out: &mut Answer, text: &[u8], kind: &Kind) -> Result<(), Unans
     }
 }
 
-/// `print_term TERM`: the printed form.
-pub(crate) fn print_case(
+/// Answers a call on a term. `print_term`: the printed form. `copy_term`: whether the copy equals the term, and the copy.
+/// `integer_of`: the value, or `none`.
+pub(crate) fn term_case(
     alloc: Global,
     out: &mut Answer,
+    call: &str,
     arguments: &[Bytes],
 ) -> Result<(), Unanswered> {
     let term = spelled_term(alloc, arguments)?;
-    show_printed(alloc, out, &term)
+    match call {
+        "print_term" => show_printed(alloc, out, &term),
+        "copy_term" => show_copy(alloc, out, &term),
+        "integer_of" => show_integer(alloc, out, integer_of(&term)),
+        _ => Err(Unanswered::NoCase),
+    }
 }
 
 /// Adds the printed form of a term.
@@ -117,16 +125,6 @@ fn show_behind(
     out.bytes(text.as_slice())
 }
 
-/// `copy_term TERM`: whether the copy equals the term, and the copy.
-pub(crate) fn copy_case(
-    alloc: Global,
-    out: &mut Answer,
-    arguments: &[Bytes],
-) -> Result<(), Unanswered> {
-    let term = spelled_term(alloc, arguments)?;
-    show_copy(alloc, out, &term)
-}
-
 fn show_copy(alloc: Global, out: &mut Answer, term: &Term) -> Result<(), Unanswered> {
     let copy = term.try_clone(alloc)?;
     out.flag(copy == *term)?;
@@ -148,16 +146,6 @@ pub(crate) fn read_case(
     }
 }
 
-/// `integer_of TERM`: the term's value, or `none`.
-pub(crate) fn integer_case(
-    alloc: Global,
-    out: &mut Answer,
-    arguments: &[Bytes],
-) -> Result<(), Unanswered> {
-    let term = spelled_term(alloc, arguments)?;
-    show_integer(alloc, out, integer_of(&term))
-}
-
 fn show_integer(alloc: Global, out: &mut Answer, value: Option<i64>) -> Result<(), Unanswered> {
     let Some(value) = value else {
         return out.word("none");
@@ -166,14 +154,20 @@ fn show_integer(alloc: Global, out: &mut Answer, value: Option<i64>) -> Result<(
     out.word(text.as_str())
 }
 
-/// `copy_triple SUBJECT PREDICATE OBJECT`, printed terms: whether the copy equals the triple, and the copy.
-pub(crate) fn copy_triple_case(
+/// Answers a call on the triple of three printed terms. `copy_triple`: whether the copy equals the triple, and the copy.
+/// `triple_rows`: the keys of its rows.
+pub(crate) fn triple_case(
     alloc: Global,
     out: &mut Answer,
+    call: &str,
     arguments: &[Bytes],
 ) -> Result<(), Unanswered> {
     let triple = triple(alloc, arguments)?;
-    show_triple_copy(alloc, out, &triple)
+    match call {
+        "copy_triple" => show_triple_copy(alloc, out, &triple),
+        "triple_rows" => show_rows(alloc, out, &triple),
+        _ => Err(Unanswered::NoCase),
+    }
 }
 
 fn show_triple_copy(alloc: Global, out: &mut Answer, triple: &Triple) -> Result<(), Unanswered> {
