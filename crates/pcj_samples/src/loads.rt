@@ -91,8 +91,11 @@ fn commits<T: RowTable>(
         panic!(rt; "no number");
     };
     let before = table.calls();
-    let Ok(Some(number)) = load_triples(alloc, oracle, table, triples.as_slice(), start) else {
-        panic!(rt; "the load isn't committed");
+    let Ok(loaded) = load_triples(alloc, oracle, table, triples.as_slice(), start) else {
+        panic!(rt; "the load was cut short");
+    };
+    let Some(number) = loaded else {
+        panic!(rt; "no number is left");
     };
     assert!(rt; number == commit);
     assert!(rt; table.calls().saturating_sub(before) == calls);
