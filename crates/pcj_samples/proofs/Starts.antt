@@ -1,5 +1,5 @@
 -- A load that begins at the number that was drawn last.
-use Rattle.std.proofs.Common.{◌+◌, ℕ, List, [], Option}
+use Rattle.std.proofs.Common.{ℕ, List, [], Option}
 use Rattle.std.specs.List.{All, IsDistinct}
 use Rattle.std.proofs.lemmas.List.Elements.{All-nil}
 use Rattle.pcj_term.specs.declared.triple.Triple.{Triple}

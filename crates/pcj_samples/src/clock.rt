@@ -1,6 +1,6 @@
 //! Tables whose clock is set before the first number is granted.
 
-ghost use Rattle.std.specs.Prelude.{◌≤◌, ◌^◌, IfOk, OnOk};
+ghost use Rattle.std.specs.Prelude.{◌≤◌, ◌^◌, OnOk};
 ghost use Rattle.pcj_replay.specs.Session.{IsFresh};
 
 use pcj_encode::{KeyName, write_key};
