@@ -102,7 +102,9 @@ fn commits<T: RowTable>(
 }
 
 /// Whether a table has exactly these triples, in their order.
-fn has_exactly<T: RowTable>(alloc: Global, table: &mut T, triples: &[Triple]) -> bool {
+fn has_exactly<T: RowTable>(alloc: Global, table: &mut T, triples: &[Triple]) -> bool
+    ensures { T.rows table.new ≡ T.rows table.old }
+{
     match triples_of(alloc, table) {
         Ok(found) => found.as_slice() == triples,
         Err(_) => false,
@@ -110,7 +112,9 @@ fn has_exactly<T: RowTable>(alloc: Global, table: &mut T, triples: &[Triple]) ->
 }
 
 /// Whether a table has so many triples.
-fn has_count<T: RowTable>(alloc: Global, table: &mut T, count: usize) -> bool {
+fn has_count<T: RowTable>(alloc: Global, table: &mut T, count: usize) -> bool
+    ensures { T.rows table.new ≡ T.rows table.old }
+{
     match triples_of(alloc, table) {
         Ok(found) => found.len() == count,
         Err(_) => false,

@@ -15,7 +15,8 @@ use std::alloc::Global;
 pub(crate) fn in_memory(alloc: Global) -> MemTable
     ensures { IsFresh (table_of result.rows) }
 {
-    MemTable::new(alloc, Items::new(alloc))
+    let none = Items::new(alloc);
+    MemTable::new(alloc, none)
 }
 
 /// A table without rows whose calls of these numbers fail.
