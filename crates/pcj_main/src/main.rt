@@ -67,7 +67,9 @@ fn command_words(rt: &(impl Env + Eprint + AllocGlobal)) -> Result<Vec<String>, 
 /// line of the script that was refused, since the transcript names it.
 fn complaint(status: u8, is_command: bool) -> Option<&'static str> {
     match status {
-        2 if !is_command => Some("these words are no command; the usage line names those there are"),
+        2 if !is_command => Some(
+            "these words are no command; the usage line names those there are",
+        ),
         3 => Some("standard input failed: nothing was carried out"),
         4 => Some("standard output failed: the transcript is cut off"),
         OUT_OF_MEMORY => Some("memory ran out: the transcript may be cut off"),
