@@ -47,8 +47,8 @@ pub fn replay<S: Source, K: Sink, T: RowTable>(
     ensures spent { IsReplay (map string_bytes words.now) → result ≡ 6 →
         RunsOut (stored_number (T.rows table.old)) (S.left source.old) (K.taken sink.old) (K.taken sink.new) (T.rows table.new) }
 
-    // A prefix of it: at most what one command answers is missing. Where a command was broken off, the table has the triples
-    // of those before it, or those after it too: of a load none has joined, or all have.
+    // A prefix of it: at 4 at most what one command answers is missing. Where a command was broken off, the table has the
+    // triples of those before it, or those after it too: of a load none has joined, or all have.
     ensures unread { IsReplay (map string_bytes words.now) → result ≡ 3 →
         DoesNothing (K.taken sink.old) (K.taken sink.new) (T.rows table.old) (T.rows table.new) }
     ensures interrupted { IsReplay (map string_bytes words.now) → result ≡ 4 →

@@ -4,5 +4,5 @@ use Rattle.pcj_replay.specs.Session.{IsFresh}
 use Rattle.pcj_replay.proofs.EmptyTable.{nothing_fresh}
 use Rattle.pcj_main.proofs.main.Goals as goal
 
-pub replay-requires : goal.replay-requires
-replay-requires c = subst (λ (kept : Kept). IsFresh (table_of kept.rows)) (sym c.new-table.ensures) nothing_fresh
+pub replay-status-requires : goal.replay-status-requires
+replay-status-requires c = subst (λ (kept : Kept). IsFresh (table_of kept.rows)) (sym c.new-table.ensures) nothing_fresh

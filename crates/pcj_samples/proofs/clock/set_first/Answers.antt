@@ -7,7 +7,8 @@ use Rattle.pcj_table.specs.Row.{updated}
 use Rattle.pcj_table.specs.Table.{Key, Table, row_at, Mutates}
 use Rattle.pcj_oracle.specs.Clock.{clock_key, clock_number, stored_number}
 use Rattle.pcj_mvcc.specs.Reading.{put}
-use Rattle.pcj_mvcc.proofs.Rows.{other_key, put_same, put_other, with_row_puts}
+use Rattle.pcj_term.proofs.ByteLemmas.{other_bytes}
+use Rattle.pcj_mvcc.proofs.Rows.{put_same, put_other, with_row_puts}
 use Rattle.pcj_sound.specs.Fit.{IsClockRow}
 use Rattle.pcj_sound.specs.Laws.{HasClockAlone}
 use Rattle.pcj_replay.specs.Session.{IsFresh}
@@ -33,7 +34,7 @@ set_fresh old new number alone first last mutates =
     still : HasClockAlone (row_at new)
     still = record {
       clock = subst IsClockRow (sym here) (record { lock = alone.clock.lock; versions = alone.clock.versions; value = refl });
-      others = λ other differs. rows other ∙ put_other (row_at old) clock_key row other (other_key other clock_key differs) ∙ alone.others other differs;
+      others = λ other differs. rows other ∙ put_other (row_at old) clock_key row other (other_bytes other clock_key differs) ∙ alone.others other differs;
     }
 
 pub returns : goal.returns

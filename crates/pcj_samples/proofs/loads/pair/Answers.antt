@@ -3,7 +3,8 @@ use Rattle.std.specs.List.{IsDistinct}
 use Rattle.pcj_term.specs.declared.term.Term.{Term}
 use Rattle.pcj_term.specs.declared.term.Term.TheVariants as terms
 use Rattle.pcj_term.specs.declared.triple.Triple.{Triple}
-use Rattle.pcj_term.specs.Triple.{same_bytes, same_term, same_triple}
+use Rattle.pcj_term.specs.Order.{same_bytes}
+use Rattle.pcj_term.specs.Triple.{same_term, same_triple}
 use Rattle.pcj_samples.proofs.loads.pair.Goals as goal
 
 and_false : (p q : Bool) → (p && q && false) ≡ false
