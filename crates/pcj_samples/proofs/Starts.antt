@@ -9,7 +9,7 @@ use Rattle.pcj_encode.specs.Name.{IsTriple}
 use Rattle.pcj_oracle.specs.declared.block.Block.{Block}
 use Rattle.pcj_oracle.specs.Clock.{IsClock}
 use Rattle.pcj_sound.specs.Fit.{AreLoadsBelow}
-use Rattle.pcj_load.specs.Drawing.{IsNumber}
+use Rattle.pcj_oracle.specs.Draw.{IsNumber}
 use Rattle.pcj_load.specs.Transaction.{IsAtRest, Starts}
 use Rattle.pcj_load.proofs.TransactionLaws.{draw_starts, loads_later}
 

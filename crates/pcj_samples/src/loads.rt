@@ -8,8 +8,6 @@ ghost use Rattle.pcj_term.specs.Order.{same_bytes};
 ghost use Rattle.pcj_term.specs.Triple.{same_triple};
 ghost use Rattle.pcj_encode.specs.Name.{IsTriple};
 ghost use Rattle.pcj_sound.specs.Fit.{AreLoadsBelow};
-ghost use Rattle.pcj_oracle.specs.Clock.{IsClock};
-ghost use Rattle.pcj_load.specs.Drawing.{IsNumber};
 ghost use Rattle.pcj_load.specs.Transaction.{IsAtRest};
 ghost use Rattle.pcj_replay.specs.Session.{IsFresh};
 
@@ -60,18 +58,6 @@ fn oracle_over<T: RowTable>(alloc: Global, _table: &T) -> Oracle
     Oracle::new(alloc)
 }
 
-/// Draws the number that a load begins with.
-fn draw_start<T: RowTable>(oracle: &mut Oracle, table: &mut T) -> Result<u64, OracleError>
-    requires { IsClock oracle.old (T.rows table.old) }
-    ensures number { IfOk result (λ number. IsNumber number oracle.old (T.rows table.old) oracle.new (T.rows table.new)) }
-    ensures clock { IsClock oracle.new (T.rows table.new) }
-{
-    match oracle.draw(table) {
-        Ok(number) => Ok(number),
-        Err(error) => Err(error),
-    }
-}
-
 /// Loads triples under the next number: the load commits with this number, and makes so many calls of the table.
 fn commits<T: RowTable>(
     rt: &impl Abort,
@@ -88,7 +74,7 @@ fn commits<T: RowTable>(
     requires once { IsDistinct same_triple triples.now }
     ensures { IsAtRest oracle.new (T.rows table.new) }
 {
-    let Ok(start) = draw_start(oracle, table) else {
+    let Ok(start) = oracle.draw(table) else {
         panic!(rt; "no number");
     };
     let before = table.calls();
@@ -154,7 +140,7 @@ fn fails<T: RowTable>(
     requires nodes { All (AreLoadsBelow 1) triples.now }
     requires once { IsDistinct same_triple triples.now }
 {
-    match draw_start(oracle, table) {
+    match oracle.draw(table) {
         Ok(start) => {
             load_triples(alloc, oracle, table, triples.as_slice(), start) == Err(TableError::Failed)
         }
@@ -184,7 +170,7 @@ pub(crate) fn end_at_the_last_number<T: RowTable>(rt: &impl Abort, alloc: Global
     requires { IsFresh (T.rows table.old) }
 {
     let mut oracle = oracle_over(alloc, table);
-    let Ok(start) = draw_start(&mut oracle, table) else {
+    let Ok(start) = oracle.draw(table) else {
         panic!(rt; "no number");
     };
     assert!(rt; start == LAST);
