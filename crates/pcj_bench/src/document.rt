@@ -25,10 +25,14 @@ pub fn measure_document<R: Read + Drop>(
 ) -> Result<Rate, Failure> {
     let mut text = Vec::new(alloc);
     reader.read_to_end(&mut text)?;
+    read_rounds(clock, alloc, &text)
+}
+
+fn read_rounds(clock: &impl Clock, alloc: Global, text: &[u8]) -> Result<Rate, Failure> {
     let begun = Instant::now(clock)?;
     let mut bytes: u64 = 0;
     for load in 1..=ROUNDS {
-        read_document(alloc, &text, load)?;
+        read_document(alloc, text, load)?;
         bytes = bytes.saturating_add(text.len() as u64);
     }
     let time = begun.elapsed(clock)?;

@@ -8,7 +8,7 @@ use pcj_ntriples::read_document;
 use pcj_oracle::{Oracle, OracleError};
 use pcj_rowtables::triple_rows;
 use pcj_table::{Cond, Plain, RowTable, Update};
-use pcj_term::{Bytes, Items};
+use pcj_term::{Bytes, Items, Triple};
 use std::alloc::Global;
 use std::fmt;
 use std::time::{Clock, Duration, Instant};
@@ -17,7 +17,7 @@ use std::time::{Clock, Duration, Instant};
 const DOCUMENT: u32 = 1_000;
 
 /// How long it took to load triples into a table, and to put their rows there in the same order without a load.
-#[derive(Drop)]
+#[derive(Clone, Copy)]
 pub struct LoadTimes {
     triples: u32,
     calls: u64,
@@ -63,21 +63,38 @@ pub fn measure_loads(
     triples: u32,
 ) -> Result<LoadTimes, Failure> {
     let documents = documents(alloc, triples)?;
-    let mut table = MemTable::new(alloc, Items::new(alloc));
-    let begun = Instant::now(clock)?;
-    load_documents(alloc, &mut table, &documents)?;
-    let loads = begun.elapsed(clock)?;
-    let keys = keys_of(alloc, &documents)?;
-    let mut rows = MemTable::new(alloc, Items::new(alloc));
-    let begun = Instant::now(clock)?;
-    put_rows(alloc, &mut rows, &keys)?;
-    let insertions = begun.elapsed(clock)?;
+    let (loads, calls) = time_loads(clock, alloc, &documents)?;
     Ok(LoadTimes {
         triples,
-        calls: table.calls(),
+        calls,
         loads,
-        insertions,
+        insertions: time_insertions(clock, alloc, &documents)?,
     })
+}
+
+/// How long it takes to load the documents into a new table, and how many of its calls.
+fn time_loads(
+    clock: &impl Clock,
+    alloc: Global,
+    documents: &[String],
+) -> Result<(Duration, u64), Failure> {
+    let mut table = MemTable::new(alloc, Items::new(alloc));
+    let begun = Instant::now(clock)?;
+    load_documents(alloc, &mut table, documents)?;
+    Ok((begun.elapsed(clock)?, table.calls()))
+}
+
+/// How long it takes to put the rows of the documents' triples into a new table, in the same order.
+fn time_insertions(
+    clock: &impl Clock,
+    alloc: Global,
+    documents: &[String],
+) -> Result<Duration, Failure> {
+    let keys = keys_of(alloc, documents)?;
+    let mut table = MemTable::new(alloc, Items::new(alloc));
+    let begun = Instant::now(clock)?;
+    put_rows(alloc, &mut table, &keys)?;
+    Ok(begun.elapsed(clock)?)
 }
 
 /// Loads the documents one after another.
@@ -124,8 +141,13 @@ fn keys_of(alloc: Global, documents: &[String]) -> Result<Vec<Bytes>, Failure> {
 
 /// Adds the keys of the rows of a document's triples.
 fn add_keys(alloc: Global, keys: &mut Vec<Bytes>, text: &[u8]) -> Result<(), Failure> {
-    for triple in read_document(alloc, text, 1)?.into_vec() {
-        append(keys, triple_rows(alloc, &triple)?)?;
+    let triples = read_document(alloc, text, 1)?;
+    append_each(alloc, keys, triples.as_slice())
+}
+
+fn append_each(alloc: Global, keys: &mut Vec<Bytes>, triples: &[Triple]) -> Result<(), Failure> {
+    for triple in triples {
+        append(keys, triple_rows(alloc, triple)?)?;
     }
     Ok(())
 }

@@ -25,38 +25,48 @@ use print::measure_print;
 use read::measure_read;
 use row_table::measure_row_table;
 use split::measure_split;
+use std::alloc::Global;
 use std::env;
+use std::fmt::Display;
 
 fn main(rt: HostRuntime) -> Result<(), Failure> {
-    let alloc = rt.alloc();
     let name = env::args(&rt)?.nth(1);
-    let rate = match name.as_ref().map(|name| name.as_str()) {
-        Some("print_term") => measure_print(&rt, alloc)?,
-        Some("read_term") => measure_read(&rt, alloc)?,
-        Some("join_parts") => measure_join(&rt, alloc)?,
-        Some("split_parts") => measure_split(&rt, alloc)?,
-        Some("read_document") => measure_document(&rt, alloc, rt.stdin())?,
-        Some("row_table") => {
-            for (rows, rounds) in [(1_000, 100), (10_000, 10), (100_000, 1)] {
-                let times = measure_row_table(&rt, alloc, rows, rounds)?;
-                println!(rt; "{times}")?;
-            }
-            return Ok(());
-        }
-        Some("loads") => {
-            for triples in [1_000, 10_000, 50_000] {
-                let times = measure_loads(&rt, alloc, triples)?;
-                println!(rt; "{times}")?;
-            }
-            return Ok(());
-        }
-        _ => {
-            println!(rt;
-                "usage: pcj_bench print_term|read_term|join_parts|split_parts|read_document|row_table|loads"
-            )?;
-            return Ok(());
-        }
-    };
-    println!(rt; "{rate}")?;
+    measure(&rt, name.as_ref().map(|name| name.as_str()))
+}
+
+/// Makes the measure of a name, and shows its figures.
+fn measure(rt: &HostRuntime, name: Option<&str>) -> Result<(), Failure> {
+    let alloc = rt.alloc();
+    match name {
+        Some("print_term") => show(rt, measure_print(rt, alloc)?),
+        Some("read_term") => show(rt, measure_read(rt, alloc)?),
+        Some("join_parts") => show(rt, measure_join(rt, alloc)?),
+        Some("split_parts") => show(rt, measure_split(rt, alloc)?),
+        Some("read_document") => show(rt, measure_document(rt, alloc, rt.stdin())?),
+        Some("row_table") => show_row_table(rt, alloc),
+        Some("loads") => show_loads(rt, alloc),
+        _ => show(
+            rt,
+            "usage: pcj_bench print_term|read_term|join_parts|split_parts|read_document|row_table|loads",
+        ),
+    }
+}
+
+fn show_row_table(rt: &HostRuntime, alloc: Global) -> Result<(), Failure> {
+    for (rows, rounds) in [(1_000, 100), (10_000, 10), (100_000, 1)] {
+        show(rt, measure_row_table(rt, alloc, rows, rounds)?)?;
+    }
+    Ok(())
+}
+
+fn show_loads(rt: &HostRuntime, alloc: Global) -> Result<(), Failure> {
+    for triples in [1_000, 10_000, 50_000] {
+        show(rt, measure_loads(rt, alloc, triples)?)?;
+    }
+    Ok(())
+}
+
+fn show(rt: &HostRuntime, figures: impl Display + Copy) -> Result<(), Failure> {
+    println!(rt; "{figures}")?;
     Ok(())
 }

@@ -2,7 +2,7 @@ use std::fmt;
 use std::time::Duration;
 
 /// How many bytes were worked on, and how long that took.
-#[derive(Drop)]
+#[derive(Clone, Copy)]
 pub struct Rate {
     pub bytes: u64,
     pub time: Duration,

@@ -1,25 +1,33 @@
 use crate::failure::Failure;
-use crate::mix::{ROUNDS, mixed_terms};
+use crate::mix::{ROUNDS, printed_terms};
 use crate::rate::Rate;
-use pcj_term::{print_term, read_term};
+use pcj_term::{Bytes, read_term};
 use std::alloc::Global;
 use std::time::{Clock, Instant};
 
 /// How fast terms are read, in bytes of their printed forms.
 pub fn measure_read(clock: &impl Clock, alloc: Global) -> Result<Rate, Failure> {
-    let mut texts = Vec::new(alloc);
-    for term in &mixed_terms(alloc)? {
-        texts.push(print_term(alloc, term)?)?;
-    }
+    let texts = printed_terms(alloc)?;
+    read_rounds(clock, alloc, &texts)
+}
+
+fn read_rounds(clock: &impl Clock, alloc: Global, texts: &[Bytes]) -> Result<Rate, Failure> {
     let begun = Instant::now(clock)?;
     let mut bytes: u64 = 0;
     for _ in 0..ROUNDS {
-        for text in &texts {
-            if read_term(alloc, text.as_slice())?.is_some() {
-                bytes = bytes.saturating_add(text.len() as u64);
-            }
-        }
+        bytes = bytes.saturating_add(read_each(alloc, texts)?);
     }
     let time = begun.elapsed(clock)?;
     Ok(Rate { bytes, time })
+}
+
+/// Reads each text once, and counts the bytes of those that are terms.
+fn read_each(alloc: Global, texts: &[Bytes]) -> Result<u64, Failure> {
+    let mut bytes: u64 = 0;
+    for text in texts {
+        if read_term(alloc, text.as_slice())?.is_some() {
+            bytes = bytes.saturating_add(text.len() as u64);
+        }
+    }
+    Ok(bytes)
 }

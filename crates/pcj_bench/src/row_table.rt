@@ -7,7 +7,7 @@ use std::fmt;
 use std::time::{Clock, Instant};
 
 /// How long calls took on tables of some rows, in nanoseconds.
-#[derive(Drop)]
+#[derive(Clone, Copy)]
 pub struct RowTimes {
     rows: u32,
     rounds: u32,
@@ -58,16 +58,10 @@ pub fn measure_row_table(
 ) -> Result<RowTimes, Failure> {
     let (mut insertions, mut gets, mut nexts): (u128, u128, u128) = (0, 0, 0);
     for _ in 0..rounds {
-        let mut table = MemTable::new(alloc, Items::new(alloc));
-        let begun = Instant::now(clock)?;
-        fill(alloc, &mut table, rows)?;
-        insertions = insertions.saturating_add(begun.elapsed(clock)?.as_nanos());
-        let begun = Instant::now(clock)?;
-        get_each(&mut table, rows)?;
-        gets = gets.saturating_add(begun.elapsed(clock)?.as_nanos());
-        let begun = Instant::now(clock)?;
-        walk(alloc, &mut table, rows)?;
-        nexts = nexts.saturating_add(begun.elapsed(clock)?.as_nanos());
+        let (insertion, get, next) = measure_table(clock, alloc, rows)?;
+        insertions = insertions.saturating_add(insertion);
+        gets = gets.saturating_add(get);
+        nexts = nexts.saturating_add(next);
     }
     Ok(RowTimes {
         rows,
@@ -76,6 +70,24 @@ pub fn measure_row_table(
         gets,
         nexts,
     })
+}
+
+/// The nanoseconds in which a table is filled, each row is got, and all rows are walked.
+fn measure_table(
+    clock: &impl Clock,
+    alloc: Global,
+    rows: u32,
+) -> Result<(u128, u128, u128), Failure> {
+    let mut table = MemTable::new(alloc, Items::new(alloc));
+    let begun = Instant::now(clock)?;
+    fill(alloc, &mut table, rows)?;
+    let insertions = begun.elapsed(clock)?.as_nanos();
+    let begun = Instant::now(clock)?;
+    get_each(&mut table, rows)?;
+    let gets = begun.elapsed(clock)?.as_nanos();
+    let begun = Instant::now(clock)?;
+    walk(alloc, &mut table, rows)?;
+    Ok((insertions, gets, begun.elapsed(clock)?.as_nanos()))
 }
 
 fn fill<T: RowTable>(alloc: Global, table: &mut T, rows: u32) -> Result<(), Failure> {
@@ -103,12 +115,17 @@ fn get_each<T: RowTable>(table: &mut T, rows: u32) -> Result<(), Failure> {
 fn walk<T: RowTable>(alloc: Global, table: &mut T, rows: u32) -> Result<(), Failure> {
     let mut after = Bytes::new(alloc);
     for _ in 0..rows {
-        match table.next(after.as_slice(), &[0xff; 9], u64::MAX)? {
-            None => return Ok(()),
-            Some(found) => after = found.key.try_clone(alloc)?,
-        }
+        after = key_after(alloc, table, after.as_slice())?;
     }
     Ok(())
+}
+
+/// The key of the row after a key, or the empty one where there is none.
+fn key_after<T: RowTable>(alloc: Global, table: &mut T, after: &[u8]) -> Result<Bytes, Failure> {
+    match table.next(after, &[0xff; 9], u64::MAX)? {
+        None => Ok(Bytes::new(alloc)),
+        Some(found) => Ok(found.key.try_clone(alloc)?),
+    }
 }
 
 /// The last step of the generator SplitMix64 (Steele, Lea and Flood, 2014), which maps distinct numbers to
