@@ -210,11 +210,25 @@ pub(crate) fn name_case(
     arguments: &[Bytes],
 ) -> Result<(), Unanswered> {
     let name = spelled_name(alloc, arguments)?;
+    answer_name(alloc, out, call, &name)
+}
+
+fn answer_name(
+    alloc: Global,
+    out: &mut Answer,
+    call: &str,
+    name: &KeyName,
+) -> Result<(), Unanswered> {
     match call {
-        "write_key" => show_key(out, write_key(alloc, &name)),
-        "copy_name" => show_name(alloc, out, name.try_clone(alloc).map(Some)),
+        "write_key" => show_key(out, write_key(alloc, name)),
+        "copy_name" => show_copy(alloc, out, name),
         _ => Err(Unanswered::NoCase),
     }
+}
+
+fn show_copy(alloc: Global, out: &mut Answer, name: &KeyName) -> Result<(), Unanswered> {
+    let copy = name.try_clone(alloc)?;
+    spell_name(alloc, out, &copy)
 }
 
 /// Adds a key that was made.
@@ -223,27 +237,24 @@ fn show_key(out: &mut Answer, key: Result<Bytes, Memory>) -> Result<(), Unanswer
     out.bytes(key.as_slice())
 }
 
-/// Adds a name that was read or made, or `none`.
-fn show_name(
-    alloc: Global,
-    out: &mut Answer,
-    name: Result<Option<KeyName>, Memory>,
-) -> Result<(), Unanswered> {
-    match name? {
-        Some(name) => spell_name(alloc, out, &name),
-        None => out.word("none"),
-    }
-}
-
 /// `read_key KEY`: the name that has the key, or `none`.
 pub(crate) fn read_case(
     alloc: Global,
     out: &mut Answer,
     arguments: &[Bytes],
 ) -> Result<(), Unanswered> {
-    match arguments {
-        [key] => show_name(alloc, out, read_key(alloc, key.as_slice())),
-        _ => Err(Unanswered::NoCase),
+    let [key] = arguments else {
+        return Err(Unanswered::NoCase);
+    };
+    let name = read_key(alloc, key.as_slice())?;
+    show_name(alloc, out, name.as_ref())
+}
+
+/// Adds a name, or `none`.
+fn show_name(alloc: Global, out: &mut Answer, name: Option<&KeyName>) -> Result<(), Unanswered> {
+    match name {
+        Some(name) => spell_name(alloc, out, name),
+        None => out.word("none"),
     }
 }
 

@@ -87,10 +87,14 @@ pub(crate) fn term_case(
     arguments: &[Bytes],
 ) -> Result<(), Unanswered> {
     let term = spelled_term(alloc, arguments)?;
+    answer_term(alloc, out, call, &term)
+}
+
+fn answer_term(alloc: Global, out: &mut Answer, call: &str, term: &Term) -> Result<(), Unanswered> {
     match call {
-        "print_term" => show_printed(alloc, out, &term),
-        "copy_term" => show_copy(alloc, out, &term),
-        "integer_of" => show_integer(alloc, out, integer_of(&term)),
+        "print_term" => show_printed(alloc, out, term),
+        "copy_term" => show_copy(alloc, out, term),
+        "integer_of" => show_integer(alloc, out, integer_of(term)),
         _ => Err(Unanswered::NoCase),
     }
 }
@@ -127,8 +131,17 @@ fn show_behind(
 
 fn show_copy(alloc: Global, out: &mut Answer, term: &Term) -> Result<(), Unanswered> {
     let copy = term.try_clone(alloc)?;
-    out.flag(copy == *term)?;
-    spell_term(alloc, out, &copy)
+    compare_terms(alloc, out, term, &copy)
+}
+
+fn compare_terms(
+    alloc: Global,
+    out: &mut Answer,
+    term: &Term,
+    copy: &Term,
+) -> Result<(), Unanswered> {
+    out.flag(copy == term)?;
+    spell_term(alloc, out, copy)
 }
 
 /// `read_term BYTES`: the term that the bytes print, or `none`.
@@ -163,17 +176,35 @@ pub(crate) fn triple_case(
     arguments: &[Bytes],
 ) -> Result<(), Unanswered> {
     let triple = triple(alloc, arguments)?;
+    answer_triple(alloc, out, call, &triple)
+}
+
+fn answer_triple(
+    alloc: Global,
+    out: &mut Answer,
+    call: &str,
+    triple: &Triple,
+) -> Result<(), Unanswered> {
     match call {
-        "copy_triple" => show_triple_copy(alloc, out, &triple),
-        "triple_rows" => show_rows(alloc, out, &triple),
+        "copy_triple" => show_triple_copy(alloc, out, triple),
+        "triple_rows" => show_rows(alloc, out, triple),
         _ => Err(Unanswered::NoCase),
     }
 }
 
 fn show_triple_copy(alloc: Global, out: &mut Answer, triple: &Triple) -> Result<(), Unanswered> {
     let copy = triple.try_clone(alloc)?;
-    out.flag(copy == *triple)?;
-    printed_triple(alloc, out, &copy)
+    compare_triples(alloc, out, triple, &copy)
+}
+
+fn compare_triples(
+    alloc: Global,
+    out: &mut Answer,
+    triple: &Triple,
+    copy: &Triple,
+) -> Result<(), Unanswered> {
+    out.flag(copy == triple)?;
+    printed_triple(alloc, out, copy)
 }
 
 /// Adds three fields, the printed terms of a triple.
