@@ -3,3 +3,7 @@ pub mod Transactions
 pub mod Recoveries
 pub mod Reads
 pub mod Actors
+pub mod TraceLaws
+pub mod ActorLaws
+pub mod StepLaws
+pub mod ChoiceLaws

@@ -1,0 +1,7 @@
+pub mod TraceLemmas
+pub mod OtherLemmas
+pub mod OwnLemmas
+pub mod ActorLemmas
+pub mod StepLemmas
+pub mod GoOnLemmas
+pub mod ChoiceLemmas

@@ -1,0 +1,36 @@
+-- What each act changes of what rows have of transactions.
+use Rattle.std.specs.Prelude.{◌≡◌, ◌≢◌, ℕ, true, Some}
+use Rattle.pcj_table.specs.declared.lock.Lock.{Lock}
+use Rattle.pcj_table.specs.declared.version.Version.{Version}
+use Rattle.pcj_table.specs.declared.write.Write.{Write}
+use Rattle.pcj_table.specs.Row.{is_locked_at}
+use Rattle.pcj_table.specs.Table.{Key}
+use Rattle.pcj_mvcc.specs.Acts.{lock_of, prewrite_act, replace_lock_act, roll_back_act}
+use Rattle.pcj_mvcc.specs.Reading.{Rows, acted, allows}
+use Rattle.pcj_mvcc.specs.Times.{TimesInOrder}
+use Rattle.pcj_moves.specs.Traces.{Trace, traces, no_trace, lock_trace, version_trace, place}
+
+-- one row has something else of the transaction of one start, and of no other transaction has any row something else
+pub record ChangesTrace (start : ℕ) (key : Key) (new : Trace) (before after : Rows) : Type 0 where
+  pub own : traces start after ≡ place (traces start before) key new
+  pub others : (other : ℕ) → other ≢ start → traces other after ≡ traces other before
+
+-- a locked row has the lock alone of its transaction
+abbrev pub LockedTrace : Type 0
+LockedTrace = (rows : Rows) (key : Key) (start : ℕ) → TimesInOrder rows → is_locked_at start (rows key).lock ≡ true →
+    (lock : Lock) × ((rows key).lock ≡ Some lock) × (lock.start ≡ start) × (traces start rows key ≡ lock_trace (Some lock))
+
+abbrev pub PrewriteChanges : Type 0
+PrewriteChanges = (rows : Rows) (write : Write) (start : ℕ) (primary : Key) → TimesInOrder rows →
+    allows (prewrite_act write start primary) (rows write.key) ≡ true →
+    ChangesTrace start write.key (lock_trace (Some (lock_of write start primary))) rows (acted rows write.key (prewrite_act write start primary))
+
+abbrev pub ReplaceChanges : Type 0
+ReplaceChanges = (rows : Rows) (key : Key) (version : Version) → TimesInOrder rows →
+    allows (replace_lock_act version) (rows key) ≡ true →
+    ChangesTrace version.start key (version_trace (Some version)) rows (acted rows key (replace_lock_act version))
+
+abbrev pub RollBackChanges : Type 0
+RollBackChanges = (rows : Rows) (key : Key) (start : ℕ) → TimesInOrder rows →
+    allows (roll_back_act start) (rows key) ≡ true →
+    ChangesTrace start key no_trace rows (acted rows key (roll_back_act start))
