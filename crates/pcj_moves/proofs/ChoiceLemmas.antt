@@ -15,7 +15,7 @@ use Rattle.pcj_mvcc.specs.Choices.{Choice, under, committed_row, with_commit as 
 use Rattle.pcj_mvcc.proofs.Versions.{version_of_start, commit_added, commit_kept, later_added}
 use Rattle.pcj_moves.specs.Traces.{traces, place, lock_from}
 use Rattle.pcj_moves.specs.Transactions.{Transacts, IsRipe, write_at, primary_of}
-use Rattle.pcj_moves.specs.Reads.{Answer, IsHidden}
+use Rattle.pcj_moves.specs.Reads.{covers, Answer, IsHidden}
 use Rattle.pcj_moves.specs.Actors.{Actor, IsSound, ArePair, Each, AreSound}
 use Rattle.pcj_moves.specs.Transactions.{with_next, as_committed, with_commit}
 use Rattle.pcj_moves.specs.Actors.{with_transaction}
@@ -115,7 +115,7 @@ record IsChosen (rows : Rows) (primary : Key) (commit : ℕ) (reader : ℕ) (key
   pub later : is_locked_at lock.start (rows key).lock ≡ true → reader < commit
 
 chosen : (rows : Rows) (actors : List Actor) (reader : ℕ) (answers : List Answer) (answer : Answer) (key : Key) → AreSound rows actors →
-    Each (λ other. IsHidden other.start other.transaction (traces other.start rows) reader answers) actors → Contains answers answer → answer.covers key ≡ true →
+    Each (λ other. IsHidden other.start other.transaction (traces other.start rows) reader answers) actors → Contains answers answer → covers answer key ≡ true →
     (primary : Key) (commit : ℕ) → IsRipeAt rows actors primary commit → IsChosen rows primary commit reader key
 chosen rows actors reader answers answer key sound hidden held covered primary commit ripe = by (traces ripe.0.start rows primary).lock refl
   where

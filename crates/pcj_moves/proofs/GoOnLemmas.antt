@@ -6,7 +6,7 @@ use Rattle.pcj_mvcc.specs.Reading.{seen}
 use Rattle.pcj_moves.specs.Traces.{traces}
 use Rattle.pcj_moves.specs.Transactions.{Transacts, IsHeld, IsLost, write_at, lock_at}
 use Rattle.pcj_moves.specs.Recoveries.{Recovery, IsOfWrite}
-use Rattle.pcj_moves.specs.Reads.{Answer, Reads, IsHidden}
+use Rattle.pcj_moves.specs.Reads.{covers, finds, Answer, Reads, IsHidden}
 use Rattle.pcj_moves.specs.Actors.{Actor, IsSound, ArePair}
 use Rattle.pcj_moves.specs.Transactions.{with_commit, new_transaction}
 use Rattle.pcj_moves.specs.Actors.{with_transaction, with_answer, with_recovery, IsBelow, IsOlder, new_actor}
@@ -64,8 +64,8 @@ answer_step rows actor others answer read sound = (own sound.0, each_map (IsSoun
         reads : Reads rows actor.start actor.answers → Reads rows actor.start (answer ∷ actor.answers)
         reads old held contains key covered = by (either_held answer held actor.answers contains)
           where
-            by : (held ≡ answer) ⊎ Contains actor.answers held → seen rows key actor.start ≡ held.finds key
-            by (inl same) = read.seen_there key (ap (λ (a : Answer). a.covers key) (sym same) ∙ covered) ∙ ap (λ (a : Answer). a.finds key) (sym same)
+            by : (held ≡ answer) ⊎ Contains actor.answers held → seen rows key actor.start ≡ finds held key
+            by (inl same) = read.seen_there key (ap (λ (a : Answer). covers a key) (sym same) ∙ covered) ∙ ap (λ (a : Answer). finds a key) (sym same)
             by (inr rest) = old held rest key covered
 
     from_mover : (other : Actor) → ArePair rows actor other → ArePair rows mover other
@@ -78,7 +78,7 @@ answer_step rows actor others answer read sound = (own sound.0, each_map (IsSoun
         hidden commit ripe le held contains key covered = by (either_held answer held actor.answers contains)
           where
             by : (held ≡ answer) ⊎ Contains actor.answers held → write_at other.transaction.writes key ≡ None
-            by (inl same) = hidden_read rows other.start other.transaction actor.start commit key is.transacts ripe le (read.unlocked key (ap (λ (a : Answer). a.covers key) (sym same) ∙ covered))
+            by (inl same) = hidden_read rows other.start other.transaction actor.start commit key is.transacts ripe le (read.unlocked key (ap (λ (a : Answer). covers a key) (sym same) ∙ covered))
             by (inr rest) = pair.hidden commit ripe le held rest key covered
 
 pub recovery_step : RecoveryStep

@@ -12,7 +12,7 @@ use Rattle.pcj_mvcc.specs.Reading.{Rows, put_of, seen, lock_up_to}
 use Rattle.pcj_moves.specs.Traces.{Trace, Traces, traces, lock_from}
 use Rattle.pcj_moves.specs.Transactions.{Transaction, Transacts, IsHeld, IsLost, IsRipe, write_at, lock_at, primary_of}
 use Rattle.pcj_moves.specs.Recoveries.{Recovers}
-use Rattle.pcj_moves.specs.Reads.{IsHidden}
+use Rattle.pcj_moves.specs.Reads.{finds, IsHidden}
 use Rattle.pcj_moves.specs.ActorLaws.{TransactsStays, RecoversStays, HiddenStays, ReadsStay, ReadsPassCommit, HiddenRead}
 
 pub transacts_stays : TransactsStays
@@ -56,7 +56,7 @@ unwritten_unlocked start transaction rows commit transacts ripe key none =
 pub reads_pass_commit : ReadsPassCommit
 reads_pass_commit start commit transaction before after reader answers transacts ripe hidden at_once reads answer held key covered = by (nat_le commit reader) refl
   where
-    by : (b : Bool) → nat_le commit reader ≡ b → seen after key reader ≡ answer.finds key
+    by : (b : Bool) → nat_le commit reader ≡ b → seen after key reader ≡ finds answer key
     by true e = (at_once.others key (unwritten_unlocked start transaction before commit transacts ripe key (hidden commit ripe (leb-true commit reader e) answer held key covered))).sees reader ∙ reads answer held key covered
     by false e = at_once.before key reader (leb-false commit reader e) ∙ reads answer held key covered
 

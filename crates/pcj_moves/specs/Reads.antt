@@ -1,26 +1,44 @@
 -- What was read at a time, and which transactions leave it as it was.
-use Rattle.std.specs.Prelude.{◌≡◌, ◌≤◌, ℕ, Bool, true, List, Option, None}
+use Rattle.std.specs.Prelude.{◌≡◌, ◌≤◌, ℕ, Bool, true, not, ◌&&◌, if◌then◌else◌, List, Option, Some, None}
 use Rattle.std.specs.List.{Contains}
-use Rattle.pcj_table.specs.Table.{Key}
+use Rattle.pcj_term.specs.Order.{same_bytes}
+use Rattle.pcj_table.specs.Table.{Key, is_before, is_between}
 use Rattle.pcj_mvcc.specs.Reading.{Rows, Put, seen, lock_up_to}
 use Rattle.pcj_moves.specs.Traces.{Traces}
 use Rattle.pcj_moves.specs.Transactions.{Transaction, write_at, IsRipe}
 
--- which rows were read, and the put that was found in each
-pub record Answer : Type 0 where
-  pub covers : Key → Bool
-  pub finds : Key → Option Put
+-- a put that a walk came to
+pub record FoundPut : Type 0 where
+  pub key : Key
+  pub put : Put
+
+-- What was read: the put of one row, or the first row with a put between two keys.
+pub data Answer : Type 0 where
+  OfRow : (key : Key) (found : Option Put) → Answer
+  OfRange : (after end : Key) (found : Option FoundPut) → Answer
+
+-- A walk has read the rows up to the one that it found, and all where it found none.
+abbrev pub covers : Answer → Key → Bool
+covers (OfRow key found) other = same_bytes other key
+covers (OfRange after end None) other = is_between after end other
+covers (OfRange after end (Some found)) other = is_between after end other && not (is_before found.key other)
+
+-- the put of each row that was read
+abbrev pub finds : Answer → Key → Option Put
+finds (OfRow key found) other = found
+finds (OfRange after end None) other = None
+finds (OfRange after end (Some found)) other = if same_bytes other found.key then Some found.put else None
 
 -- each answer is what is seen at the start
 abbrev pub Reads : Rows → ℕ → List Answer → Type 0
-Reads rows start answers = (answer : Answer) → Contains answers answer → (key : Key) → answer.covers key ≡ true → seen rows key start ≡ answer.finds key
+Reads rows start answers = (answer : Answer) → Contains answers answer → (key : Key) → covers answer key ≡ true → seen rows key start ≡ finds answer key
 
 -- an answer is what is seen of rows that have no lock of the start or before
 pub record IsRead (rows : Rows) (start : ℕ) (answer : Answer) : Type 0 where
-  pub seen_there : (key : Key) → answer.covers key ≡ true → seen rows key start ≡ answer.finds key
-  pub unlocked : (key : Key) → answer.covers key ≡ true → lock_up_to start (rows key).lock ≡ None
+  pub seen_there : (key : Key) → covers answer key ≡ true → seen rows key start ≡ finds answer key
+  pub unlocked : (key : Key) → covers answer key ≡ true → lock_up_to start (rows key).lock ≡ None
 
 -- where it may be committed at or below the reader's start, it writes no row that the answers cover
 abbrev pub IsHidden : ℕ → Transaction → Traces → ℕ → List Answer → Type 0
 IsHidden start transaction at reader answers = (commit : ℕ) → IsRipe start transaction at commit → commit ≤ reader →
-    (answer : Answer) → Contains answers answer → (key : Key) → answer.covers key ≡ true → write_at transaction.writes key ≡ None
+    (answer : Answer) → Contains answers answer → (key : Key) → covers answer key ≡ true → write_at transaction.writes key ≡ None
