@@ -1,19 +1,25 @@
 -- A step of one actor that leaves the rows as they are, with any others.
-use Rattle.std.proofs.Common.{◌≡◌, ◌⊎◌, inl, inr, [], ◌∷◌, Some, None, IfSome, refl, ap, sym, subst, ◌∙◌, arith}
-use Rattle.std.specs.List.{Contains}
+use Rattle.std.proofs.Common.{◌≡◌, ◌⊎◌, inl, inr, ℕ, zero, suc, Bool, true, false, is_some, ◌==◌, [], ◌∷◌, take, Option, Some, None, IfSome, refl, ap, ap₂, sym, subst, ◌∙◌, arith}
+use Rattle.std.specs.List.{Contains, find}
+use Rattle.std.specs.Option.{option_map}
+use Rattle.pcj_table.specs.Row.{is_locked_at}
+use Rattle.pcj_table.specs.Table.{Key}
 use Rattle.pcj_table.specs.declared.lock.Lock.{Lock}
-use Rattle.pcj_mvcc.specs.Reading.{seen}
-use Rattle.pcj_moves.specs.Traces.{traces}
-use Rattle.pcj_moves.specs.Transactions.{Transacts, IsHeld, IsLost, write_at, lock_at}
-use Rattle.pcj_moves.specs.Recoveries.{Recovery, IsOfWrite}
-use Rattle.pcj_moves.specs.Reads.{covers, finds, Answer, Reads, IsHidden}
-use Rattle.pcj_moves.specs.Actors.{Actor, IsSound, ArePair}
-use Rattle.pcj_moves.specs.Transactions.{with_commit, new_transaction}
-use Rattle.pcj_moves.specs.Actors.{with_transaction, with_answer, with_recovery, IsBelow, IsOlder, new_actor}
-use Rattle.pcj_moves.specs.StepLaws.{BeginStep, WritesStep, DrawStep, AnswerStep, RecoveryStep, RecoveryBegins}
-use Rattle.pcj_moves.proofs.OtherLemmas.{lock_is, hidden_read}
-use Rattle.pcj_moves.proofs.OwnLemmas.{lock_is_of_write, draw_goes_on, hidden_undrawn, hidden_drawn}
-use Rattle.pcj_moves.proofs.ActorLemmas.{if_some, each_map, each_sound, either_held}
+use Rattle.pcj_table.specs.declared.row.Row.{Row}
+use Rattle.pcj_table.specs.declared.version.Version.{Version}
+use Rattle.pcj_mvcc.specs.Acts.{lock_of}
+use Rattle.pcj_mvcc.specs.Reading.{commit_of, seen}
+use Rattle.pcj_moves.specs.Traces.{Traces, lock_from, lock_trace, no_trace, trace, traces, version_trace}
+use Rattle.pcj_moves.specs.Transactions.{IsHeld, IsLost, Transaction, Transacts, as_committed, as_version, lock_at, new_transaction, primary_of, with_commit, write_at}
+use Rattle.pcj_moves.specs.Recoveries.{IsOfWrite, Knows, Recovery, told_by, with_known}
+use Rattle.pcj_moves.specs.Reads.{Answer, IsHidden, Reads, covers, finds}
+use Rattle.pcj_moves.specs.Actors.{Actor, ArePair, IsBelow, IsOlder, IsSound, new_actor, with_answer, with_recovery, with_transaction}
+use Rattle.pcj_moves.specs.StepLaws.{AnswerStep, BeginStep, DrawStep, EmptyStep, RecoveryBegins, RecoveryLearns, RecoveryStep, WritesStep}
+use Rattle.pcj_moves.proofs.TraceLemmas.{both}
+use Rattle.pcj_moves.proofs.OtherLemmas.{hidden_read, lock_is}
+use Rattle.pcj_moves.proofs.OwnLemmas.{draw_goes_on, hidden_committed, hidden_drawn, hidden_undrawn, lock_is_of_write}
+use Rattle.pcj_moves.proofs.ActorLemmas.{Step, each_holds, each_map, each_sound, either_held, if_some, sound_after}
+use Rattle.pcj_moves.proofs.StepLemmas.{trace_lock}
 
 pub draw_step : DrawStep
 draw_step rows actor others commit all not_yet below sound = (own sound.0, each_map (IsBelow commit) paired _ (λ other lower pair. (from_mover other lower pair.0, to_mover other lower pair.1)) others below.1 sound.1, sound.2)
@@ -45,6 +51,64 @@ draw_step rows actor others commit all not_yet below sound = (own sound.0, each_
       };
       hidden = pair.hidden;
       recovers = pair.recovers;
+    }
+
+-- ---- the commit of nothing
+
+nothing_locked : (start : ℕ) (transaction : Transaction) → transaction.writes ≡ [] → (key : Key) → lock_at start transaction key ≡ None
+nothing_locked start transaction none key = ap (λ writes. option_map (λ w. lock_of w start (primary_of transaction)) (write_at (take transaction.prewritten writes) key)) none ∙ by transaction.prewritten
+  where
+    by : (n : ℕ) → option_map (λ w. lock_of w start (primary_of transaction)) (write_at (take n []) key) ≡ None
+    by zero = refl
+    by (suc n) = refl
+
+pub empty_step : EmptyStep
+empty_step rows actor others commit none drawn not_yet sound = sound_after _ rows rows actor (with_transaction actor (as_committed transaction)) others step (each_holds _ (λ other. tt) others) sound
+  where
+    transaction : Transaction
+    transaction = actor.transaction
+
+    at : Traces
+    at = traces actor.start rows
+
+    held : Transacts actor.start transaction at → (key : Key) → at key ≡ no_trace
+    held transacts key = by (transacts.undone not_yet)
+      where
+        by : IsHeld (lock_at actor.start transaction) at ⊎ IsLost (primary_of transaction) (lock_at actor.start transaction) at → at key ≡ no_trace
+        by (inl all) = all key ∙ ap lock_trace (nothing_locked actor.start transaction none key)
+        by (inr lost) = absurd (let clash = ap is_some (nothing_locked actor.start transaction none (primary_of transaction)) in let some = lost.some in cc)
+
+    free : (key : Key) → version_trace (as_version commit (lock_at actor.start transaction key)) ≡ no_trace
+    free key = ap (λ lock. version_trace (as_version commit lock)) (nothing_locked actor.start transaction none key)
+
+    step : Step (λ other. Unit {0}) rows rows actor (with_transaction actor (as_committed transaction))
+    step = record {
+      own = λ is. record {
+        reads = is.reads;
+        transacts = record {
+          within = is.transacts.within;
+          undone = λ e. absurd cc;
+          all = is.transacts.all;
+          later = is.transacts.later;
+          won = λ e. (
+            commit,
+            drawn,
+            record {
+              primary_there = held is.transacts (primary_of transaction) ∙ sym (free (primary_of transaction));
+              each = λ key. inr (held is.transacts key ∙ sym (free key));
+            },
+          );
+        };
+        recovers = is.recovers;
+      };
+      one = λ other c to from is. is;
+      two = λ other third from pair. pair;
+      from_mover = λ other c is pair. record {
+        apart = record { starts = pair.apart.starts; commits = pair.apart.commits };
+        hidden = hidden_committed actor.start (as_committed transaction) at other.start other.answers refl;
+        recovers = pair.recovers;
+      };
+      to_mover = λ other c is pair. record { apart = record { starts = pair.apart.starts; commits = pair.apart.commits }; hidden = pair.hidden; recovers = pair.recovers };
     }
 
 -- ---- reads and recoveries of an actor
@@ -82,32 +146,26 @@ answer_step rows actor others answer read sound = (own sound.0, each_map (IsSoun
             by (inr rest) = pair.hidden commit ripe le held rest key covered
 
 pub recovery_step : RecoveryStep
-recovery_step rows actor others recovery is sound = (own sound.0, each_map (IsSound rows) paired _ (λ other is pair. (from_mover other pair.0, to_mover other is pair.1)) others (each_sound rows others sound.2) sound.1, sound.2)
+recovery_step rows actor others recovery is sound = sound_after _ rows rows actor (with_recovery actor recovery) others step (each_holds _ (λ other. tt) others) sound
   where
-    mover : Actor
-    mover = with_recovery actor recovery
-
-    paired : Actor → Type 0
-    paired other = ArePair rows actor other × ArePair rows other actor
-
-    own : IsSound rows actor → IsSound rows mover
-    own old = record { reads = old.reads; transacts = old.transacts; recovers = if_some _ _ (λ r fact. (fact.0, fact.1)) recovery is }
-
-    from_mover : (other : Actor) → ArePair rows actor other → ArePair rows mover other
-    from_mover other pair = record { apart = record { starts = pair.apart.starts; commits = pair.apart.commits }; hidden = pair.hidden; recovers = pair.recovers }
-
-    to_mover : (other : Actor) → IsSound rows other → ArePair rows other actor → ArePair rows other mover
-    to_mover other sound_there pair = record {
-      apart = record { starts = pair.apart.starts; commits = pair.apart.commits };
-      hidden = pair.hidden;
-      recovers = if_some _ _ (λ r fact same. by r same fact.2) recovery is;
+    step : Step (λ other. Unit {0}) rows rows actor (with_recovery actor recovery)
+    step = record {
+      own = λ old. record { reads = old.reads; transacts = old.transacts; recovers = if_some _ _ (λ r may. (may.recovers, may.other)) recovery is };
+      one = λ other c to from old. old;
+      two = λ other third from pair. pair;
+      from_mover = λ other c old pair. record { apart = record { starts = pair.apart.starts; commits = pair.apart.commits }; hidden = pair.hidden; recovers = pair.recovers };
+      to_mover = λ other c old pair. record {
+        apart = record { starts = pair.apart.starts; commits = pair.apart.commits };
+        hidden = pair.hidden;
+        recovers = if_some _ _ (λ r may same. by other old.transacts pair.recovers r same may.known) recovery is;
+      };
     }
       where
-        by : (r : Recovery) → r.lock.start ≡ other.start → ((traces r.lock.start rows r.key).lock ≡ Some r.lock) ⊎ ((q : Recovery) × (actor.recovery ≡ Some q) × (q.key ≡ r.key) × (q.lock ≡ r.lock)) →
-            lock_at other.start other.transaction r.key ≡ Some r.lock
-        by r same (inl locked) = lock_is_of_write other.start other.transaction (traces other.start rows) r.key r.lock sound_there.transacts (ap (λ s. (traces s rows r.key).lock) (sym same) ∙ locked)
-        by r same (inr old) =
-            let of_write = subst (λ found. IfSome found (λ q. q.lock.start ≡ other.start → lock_at other.start other.transaction q.key ≡ Some q.lock)) old.1 pair.recovers in
+        by : (other : Actor) → Transacts other.start other.transaction (traces other.start rows) → IsOfWrite other.start other.transaction actor.recovery → (r : Recovery) → r.lock.start ≡ other.start →
+            ((rows r.key).lock ≡ Some r.lock) ⊎ ((old : Recovery) × (actor.recovery ≡ Some old) × (old.key ≡ r.key) × (old.lock ≡ r.lock)) → lock_at other.start other.transaction r.key ≡ Some r.lock
+        by other transacts before r same (inl locked) = lock_is_of_write other.start other.transaction (traces other.start rows) r.key r.lock transacts (trace_lock rows r.key other.start r.lock locked same)
+        by other transacts before r same (inr old) =
+            let of_write = subst (λ found. IfSome found (λ q. q.lock.start ≡ other.start → lock_at other.start other.transaction q.key ≡ Some q.lock)) old.1 before in
             ap (lock_at other.start other.transaction) (sym old.2) ∙ of_write (ap (λ (l : Lock). l.start) old.3 ∙ same) ∙ ap Some old.3
 
 pub recovery_begins : RecoveryBegins
@@ -116,6 +174,37 @@ recovery_begins rows key lock locked one = record {
   holds = λ l e. let found = lock_is (rows key).lock lock.start l e in (let same : Some l ≡ Some lock = sym found.0 ∙ locked in cc);
   knows = tt;
 }
+
+-- a row without a lock or a version of a start has nothing of it
+untouched : (row : Row) (start : ℕ) → commit_of start row.versions ≡ None → is_locked_at start row.lock ≡ false → trace start row ≡ no_trace
+untouched row start none free = ap₂ both (no_lock_from row.lock free) (none_found (find (λ v. v.start == start) row.versions) none)
+  where
+    no_lock_from : (lock : Option Lock) → is_locked_at start lock ≡ false → lock_from start lock ≡ None
+    no_lock_from None free = refl
+    no_lock_from (Some lock) free = rw free refl
+
+    none_found : (found : Option Version) → option_map (λ v. v.commit) found ≡ None → found ≡ None
+    none_found None e = refl
+    none_found (Some v) e = absurd cc
+
+pub recovery_learns : RecoveryLearns
+recovery_learns rows recovery differs recovers = record {
+  names = recovers.names;
+  holds = recovers.holds;
+  knows = by (commit_of start primary.versions) refl (is_locked_at start primary.lock) refl;
+}
+  where
+    start : ℕ
+    start = recovery.lock.start
+
+    primary : Row
+    primary = rows recovery.lock.primary
+
+    by : (commit : Option ℕ) → commit_of start primary.versions ≡ commit → (locked : Bool) → is_locked_at start primary.lock ≡ locked →
+        Knows (with_known recovery (told_by (commit_of start primary.versions) (is_locked_at start primary.lock))) (traces start rows) (told_by commit locked)
+    by (Some commit) e locked f = (differs, e)
+    by None e true f = tt
+    by None e false f = (differs, untouched primary start e f)
 
 -- ---- an actor begins
 

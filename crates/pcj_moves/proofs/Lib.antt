@@ -1,4 +1,5 @@
 pub mod TraceLemmas
+pub mod WriteLemmas
 pub mod OtherLemmas
 pub mod OwnLemmas
 pub mod ActorLemmas

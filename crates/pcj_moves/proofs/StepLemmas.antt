@@ -1,29 +1,29 @@
 -- A step of one actor that changes a row, with any others.
-use Rattle.std.proofs.Common.{◌≡◌, ◌⊎◌, inl, inr, ◌<◌, ℕ, cond, ◌==◌, is_some, List, ◌∷◌, length, take, Some, None, refl, ap, sym, subst, ◌∙◌, arith}
-use Rattle.std.specs.Option.{option_map}
+use Rattle.std.proofs.Common.{◌≡◌, ◌≢◌, ◌⊎◌, inl, inr, ◌<◌, ℕ, cond, is_some, ◌==◌, List, ◌∷◌, length, take, Option, Some, None, refl, ap, sym, subst, ◌∙◌, arith}
 use Rattle.std.proofs.lemmas.Bool.{and_parts, eq-eqb}
 use Rattle.std.proofs.lemmas.List.{take_all}
+use Rattle.std.specs.Option.{option_map}
+use Rattle.pcj_term.proofs.ByteLemmas.{same_bytes_itself}
+use Rattle.pcj_table.specs.Table.{Key}
 use Rattle.pcj_table.specs.declared.lock.Lock.{Lock}
 use Rattle.pcj_table.specs.declared.row.Row.{Row}
-use Rattle.pcj_table.specs.Table.{Key}
-use Rattle.pcj_mvcc.specs.Acts.{lock_of, version_of, prewrite_act, commit_act}
-use Rattle.pcj_mvcc.specs.Reading.{Rows, acted, SameReading, OnePrimary, OnlyLock, committed}
-use Rattle.pcj_mvcc.specs.Laws.{StandsAtOnce}
-use Rattle.pcj_term.proofs.ByteLemmas.{same_bytes_itself}
+use Rattle.pcj_table.specs.declared.version.Version.{Version}
+use Rattle.pcj_mvcc.proofs.Laws.{commits_stand, prewrite_keeps, primary_commits, roll_back_keeps, roll_forward_keeps}
 use Rattle.pcj_mvcc.proofs.Rows.{put_same}
-use Rattle.pcj_mvcc.proofs.Laws.{prewrite_keeps, roll_back_keeps, roll_forward_keeps, primary_commits, commits_stand}
-use Rattle.pcj_moves.specs.Traces.{Trace, Traces, traces, place, no_trace, lock_trace, version_trace, lock_from}
-use Rattle.pcj_moves.specs.Transactions.{Transaction, Transacts, IsHeld, IsLost, IsRipe, write_at, lock_at, primary_of, first_key}
-use Rattle.pcj_moves.specs.Recoveries.{Recovery, Knows, Recovers}
-use Rattle.pcj_moves.specs.Reads.{Answer, Reads, IsHidden}
-use Rattle.pcj_moves.specs.Actors.{Actor, IsSound, ArePair}
-use Rattle.pcj_moves.specs.Transactions.{with_next, as_committed}
+use Rattle.pcj_mvcc.specs.Acts.{commit_act, lock_of, prewrite_act, version_of}
+use Rattle.pcj_mvcc.specs.Laws.{StandsAtOnce}
+use Rattle.pcj_mvcc.specs.Reading.{OnePrimary, OnlyLock, Rows, SameReading, acted, committed}
+use Rattle.pcj_moves.specs.Traces.{Trace, Traces, lock_from, lock_trace, no_trace, place, traces, version_trace}
+use Rattle.pcj_moves.specs.Transactions.{IsHeld, IsLost, IsRipe, IsWon, Transaction, Transacts, as_committed, as_version, first_key, lock_at, primary_of, with_next, write_at}
+use Rattle.pcj_moves.specs.Recoveries.{Knows, Recovers, Recovery}
+use Rattle.pcj_moves.specs.Reads.{Answer, IsHidden, Reads}
+use Rattle.pcj_moves.specs.Actors.{Actor, ArePair, IsSound}
 use Rattle.pcj_moves.specs.TraceLaws.{ChangesTrace}
-use Rattle.pcj_moves.specs.StepLaws.{UnlockStep, RollBackUnlocks, RollForwardUnlocks, PrewriteStep, PrimaryStep, RecoveryRollsBack, RecoveryDropsPrimary, RecoveryRollsForward, StayStep}
+use Rattle.pcj_moves.specs.StepLaws.{PrewriteStep, PrimaryStep, RecoveryDropsPrimary, RecoveryRollsBack, RecoveryRollsForward, RollBackUnlocks, RollForwardUnlocks, SecondaryUnlocks, StayStep, UnlockStep}
 use Rattle.pcj_moves.proofs.TraceLemmas.{locked_trace, prewrite_changes, replace_changes, roll_back_changes}
-use Rattle.pcj_moves.proofs.OtherLemmas.{transacts_stays, recovers_stays, hidden_stays, reads_stay, reads_pass_commit}
-use Rattle.pcj_moves.proofs.OwnLemmas.{lock_is_of_write, names_primary, prewrite_goes_on, primary_goes_on, roll_back_goes_on, roll_forward_goes_on, recovers_unlock, recovers_prewrite, of_write_next, hidden_unlock, hidden_undrawn, hidden_committed}
-use Rattle.pcj_moves.proofs.ActorLemmas.{by_number, if_some, each_holds, sounds_stay, sound_after, OwnStep, own_step}
+use Rattle.pcj_moves.proofs.OtherLemmas.{hidden_stays, reads_pass_commit, reads_stay, recovers_stays, transacts_stays}
+use Rattle.pcj_moves.proofs.OwnLemmas.{hidden_committed, hidden_undrawn, hidden_unlock, lock_is_of_write, names_primary, of_write_next, prewrite_goes_on, primary_first, primary_goes_on, recovers_prewrite, recovers_unlock, roll_back_goes_on, roll_forward_goes_on}
+use Rattle.pcj_moves.proofs.ActorLemmas.{OwnStep, by_number, each_holds, if_some, own_step, sound_after, sounds_stay}
 
 -- ---- a lock is taken away
 
@@ -104,6 +104,50 @@ roll_forward_unlocks rows key lock commit order allowed only one differs is =
           (ap (λ k. committed rows k lock.start) (primary_is lock.start transaction rows lock.primary key lock one (found.1 ∙ ap Some same) refl was transacts) ∙ is) was;
     }
 
+pub trace_lock : (rows : Rows) (key : Key) (start : ℕ) (lock : Lock) → (rows key).lock ≡ Some lock → lock.start ≡ start → (traces start rows key).lock ≡ Some lock
+trace_lock rows key start lock e same = ap (lock_from start) e ∙ rw (ap (λ s. s == start) same ∙ eq-eqb start start refl) refl
+
+-- the primary of a transaction is named by all its locks
+pub names_one : (rows : Rows) (start : ℕ) (transaction : Transaction) → Transacts start transaction (traces start rows) → OnePrimary rows (primary_of transaction) start
+names_one rows start transaction transacts key l e same =
+    sym (names_primary start (primary_of transaction) (write_at (take transaction.prewritten transaction.writes) key) l
+    (lock_is_of_write start transaction (traces start rows) key l transacts (trace_lock rows key start l e same)))
+
+pub secondary_unlocks : SecondaryUnlocks
+secondary_unlocks rows start transaction write commit order transacts done drawn is allowed =
+    roll_forward_unlocks rows write.key lock commit order allowed only (names_one rows start transaction transacts) differs now
+  where
+    at : Traces
+    at = traces start rows
+
+    lock : Lock
+    lock = lock_of write start (primary_of transaction)
+
+    taken : take transaction.prewritten transaction.writes ≡ transaction.writes
+    taken = ap (λ n. take n transaction.writes) (transacts.all commit drawn) ∙ take_all (length transaction.writes) transaction.writes (omega arith)
+
+    written : lock_at start transaction write.key ≡ Some lock
+    written = ap (option_map (λ w. lock_of w start (primary_of transaction))) (ap (λ ws. write_at ws write.key) taken ∙ is)
+
+    only : OnlyLock rows write.key lock
+    only l e same = let one : Some l ≡ Some lock = sym (lock_is_of_write start transaction at write.key l transacts (trace_lock rows write.key start l e same)) ∙ written in cc
+
+    won : IsWon (primary_of transaction) (lock_at start transaction) commit at
+    won = let found = transacts.won done in
+        let same : found.0 ≡ commit = (let e = found.1 in cc) in subst (λ c. IsWon (primary_of transaction) (lock_at start transaction) c at) same found.2
+
+    differs : write.key ≢ primary_of transaction
+    differs same =
+        let found = locked_trace rows write.key start order (and_parts _ _ allowed).0 in
+        let clash : None ≡ Some found.0 = ap (λ (t : Trace). t.lock) (sym won.primary_there ∙ ap at (sym same) ∙ found.3) in cc
+
+    some : (found : Option Lock) → lock_at start transaction (primary_of transaction) ≡ found → option_map (λ (v : Version). v.commit) (as_version commit found) ≡ Some commit
+    some None e = absurd (let clash : None ≡ Some lock = sym (primary_first start transaction.prewritten transaction.writes (primary_of transaction) e write.key) ∙ written in cc)
+    some (Some l) e = refl
+
+    now : committed rows (primary_of transaction) start ≡ Some commit
+    now = ap (λ (t : Trace). option_map (λ v. v.commit) t.version) won.primary_there ∙ some (lock_at start transaction (primary_of transaction)) refl
+
 -- ---- the prewrite of a row
 
 pub prewrite_step : PrewriteStep
@@ -140,9 +184,6 @@ prewrite_step rows actor others write order next allowed sound = sound_after _ r
     }
 
 -- ---- the commit of the primary's row
-
-pub trace_lock : (rows : Rows) (key : Key) (start : ℕ) (lock : Lock) → (rows key).lock ≡ Some lock → lock.start ≡ start → (traces start rows key).lock ≡ Some lock
-trace_lock rows key start lock e same = ap (lock_from start) e ∙ rw (ap (λ s. s == start) same ∙ eq-eqb start start refl) refl
 
 reads_before : (start commit : ℕ) (before after : Rows) (reader : ℕ) (answers : List Answer) → StandsAtOnce start commit before after → reader < commit → Reads before reader answers → Reads after reader answers
 reads_before start commit before after reader answers at_once earlier reads answer held key covered = at_once.before key reader earlier ∙ reads answer held key covered

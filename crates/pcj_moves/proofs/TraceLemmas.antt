@@ -5,7 +5,8 @@ use Rattle.std.proofs.lemmas.Bool.{and_parts, eqb-true, eq-eqb, ltb-true}
 use Rattle.pcj_table.specs.declared.lock.Lock.{Lock}
 use Rattle.pcj_table.specs.declared.version.Version.{Version}
 use Rattle.pcj_table.specs.declared.row.Row.{Row}
-use Rattle.pcj_table.specs.Row.{are_below, is_locked_at, updated_all}
+use Rattle.pcj_table.specs.Row.{are_below, is_locked_at, updated, updated_all}
+use Rattle.pcj_table.specs.declared.update.Update.TheVariants.{SetPlain}
 use Rattle.pcj_table.specs.Table.{Key}
 use Rattle.pcj_mvcc.specs.Acts.{lock_of, prewrite_act, replace_lock_act, roll_back_act}
 use Rattle.pcj_term.specs.Order.{same_bytes}
@@ -13,9 +14,10 @@ use Rattle.pcj_mvcc.specs.Reading.{Rows, put}
 use Rattle.pcj_mvcc.specs.Times.{starts_first, TimesInOrder}
 use Rattle.pcj_mvcc.proofs.Versions.{find_added, found_added}
 use Rattle.pcj_mvcc.proofs.Rows.{put_each}
-use Rattle.pcj_mvcc.proofs.Laws.{lock_there}
+use Rattle.pcj_mvcc.specs.Reading.{committed, reading}
+use Rattle.pcj_mvcc.proofs.Laws.{lock_there, versions_kept, reads_as_before, reading_alike}
 use Rattle.pcj_moves.specs.Traces.{Trace, Traces, trace, lock_from, no_trace, lock_trace, version_trace}
-use Rattle.pcj_moves.specs.TraceLaws.{ChangesTrace, LockedTrace, PrewriteChanges, ReplaceChanges, RollBackChanges}
+use Rattle.pcj_moves.specs.TraceLaws.{Stays, RowStays, PlainStays, ChangesTrace, LockedTrace, PrewriteChanges, ReplaceChanges, RollBackChanges}
 
 pub traces_alike : (at others : Traces) → ((key : Key) → at key ≡ others key) → at ≡ others
 traces_alike at others alike = λ i. λ key. alike key i
@@ -64,7 +66,7 @@ pub none_there : (lock : Option Lock) (other : ℕ) → not (is_some lock) ≡ t
 none_there None other e = refl
 none_there (Some lock) other e = absurd cc
 
-abbrev both : Option Lock → Option Version → Trace
+abbrev pub both : Option Lock → Option Version → Trace
 both lock version = record { lock = lock; version = version }
 
 pub locked_trace : LockedTrace
@@ -93,3 +95,19 @@ roll_back_changes rows key start order allowed =
     changes_at start key no_trace rows (updated_all (rows key) (roll_back_act start).updates)
     (ap (both None) (none_where_locked rows key start order locked))
     (λ other differs. ap (λ l. both l (find (λ version. version.start == other) (rows key).versions)) (sym (other_lock (rows key).lock start other locked differs)))
+
+-- ---- what changes nothing of any transaction
+
+pub row_stays : RowStays
+row_stays rows key row lock versions = record {
+  same = let kept = versions_kept rows key row versions in
+      reads_as_before rows key row (λ other l e. kept l.primary l.start)
+      (ap₂ (reading (committed (put rows key row))) lock versions
+      ∙ reading_alike (committed (put rows key row)) (committed rows) (rows key).lock (rows key).versions (λ l e. kept l.primary l.start));
+  traces_same = λ start. traces_alike _ _ (put_each (λ q r. trace start r ≡ trace start (rows q)) rows key row
+      (ap₂ both (ap (lock_from start) lock) (ap (find (λ version. version.start == start)) versions)) (λ q apart. refl));
+}
+
+pub plain_stays : PlainStays
+plain_stays rows key act plain is =
+    subst (λ updates. Stays rows (put rows key (updated_all (rows key) updates))) (sym is) (row_stays rows key (updated (rows key) (SetPlain plain)) refl refl)

@@ -4,6 +4,7 @@ pub mod Recoveries
 pub mod Reads
 pub mod Actors
 pub mod TraceLaws
+pub mod WriteLaws
 pub mod ActorLaws
 pub mod StepLaws
 pub mod ChoiceLaws

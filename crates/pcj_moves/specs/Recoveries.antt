@@ -1,9 +1,12 @@
 -- A recovery of a lock that another transaction left behind, and what rows have of that transaction (Percolator, OSDI
 -- 2010, section 2.2).
-use Rattle.std.specs.Prelude.{◌≡◌, ◌≢◌, ℕ, Option, Some, None, IfSome}
+use Rattle.std.specs.Prelude.{◌≡◌, ◌≢◌, ℕ, Bool, true, false, Option, Some, None, IfSome}
 use Rattle.std.specs.Option.{option_map}
 use Rattle.pcj_table.specs.declared.lock.Lock.{Lock}
+use Rattle.pcj_table.specs.declared.row.Row.{Row}
+use Rattle.pcj_table.specs.Row.{is_locked_at}
 use Rattle.pcj_table.specs.Table.{Key}
+use Rattle.pcj_mvcc.specs.Reading.{commit_of}
 use Rattle.pcj_moves.specs.Traces.{Traces, no_trace}
 use Rattle.pcj_moves.specs.Transactions.{Transaction, lock_at}
 
@@ -31,3 +34,22 @@ pub record Recovers (recovery : Recovery) (at : Traces) : Type 0 where
 -- a recovery of this start is of a row that was prewritten, and holds the lock of its write
 abbrev pub IsOfWrite : ℕ → Transaction → Option Recovery → Type 0
 IsOfWrite start transaction recovery = IfSome recovery (λ recovery. recovery.lock.start ≡ start → lock_at start transaction recovery.key ≡ Some recovery.lock)
+
+-- ---- how it goes on
+
+-- nothing is known of the primary
+abbrev pub new_recovery : Key → Lock → Recovery
+new_recovery key lock = record { key = key; lock = lock; known = None }
+
+abbrev pub with_known : Recovery → Option (Option ℕ) → Recovery
+with_known recovery known = record { key = recovery.key; lock = recovery.lock; known = known }
+
+-- What the primary's row tells: that its transaction is committed, or that it never will be. A lock that stands tells
+-- nothing.
+abbrev pub told_by : Option ℕ → Bool → Option (Option ℕ)
+told_by (Some commit) locked = Some (Some commit)
+told_by None true = None
+told_by None false = Some None
+
+abbrev pub told : ℕ → Row → Option (Option ℕ)
+told start row = told_by (commit_of start row.versions) (is_locked_at start row.lock)

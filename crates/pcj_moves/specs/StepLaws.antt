@@ -8,11 +8,11 @@ use Rattle.pcj_mvcc.specs.Reading.{Rows, acted, allows, committed, OnlyLock, One
 use Rattle.pcj_mvcc.specs.Times.{TimesInOrder}
 use Rattle.pcj_mvcc.specs.Reading.{SameReading}
 use Rattle.pcj_moves.specs.Traces.{Trace, traces, no_trace, lock_trace, place}
-use Rattle.pcj_moves.specs.Transactions.{Transaction, primary_of, Transacts, new_transaction, with_next, with_commit, as_committed, IsNext}
-use Rattle.pcj_moves.specs.Recoveries.{Recovery, Recovers}
+use Rattle.pcj_moves.specs.Transactions.{Transaction, primary_of, write_at, Transacts, new_transaction, with_next, with_commit, as_committed, IsNext}
+use Rattle.pcj_moves.specs.Recoveries.{Recovery, Recovers, new_recovery, with_known, told}
 use Rattle.pcj_moves.specs.Reads.{Answer, IsRead}
 use Rattle.pcj_moves.specs.Actors.{Actor, Each, AreSound, new_actor, with_transaction, with_answer, with_recovery, IsBelow, IsOlder}
-use Rattle.pcj_moves.specs.TraceLaws.{ChangesTrace}
+use Rattle.pcj_moves.specs.TraceLaws.{ChangesTrace, Stays}
 
 -- ---- a step with any other actors
 
@@ -38,6 +38,14 @@ RollForwardUnlocks = (rows : Rows) (key : Key) (lock : Lock) (commit : ℕ) → 
     OnlyLock rows key lock → OnePrimary rows lock.primary lock.start → key ≢ lock.primary → committed rows lock.primary lock.start ≡ Some commit →
     Unlocks lock.start rows (acted rows key (roll_forward_act lock commit))
 
+-- a committed transaction's commit of a further row that it writes
+abbrev pub SecondaryUnlocks : Type 0
+SecondaryUnlocks = (rows : Rows) (start : ℕ) (transaction : Transaction) (write : Write) (commit : ℕ) → TimesInOrder rows → Transacts start transaction (traces start rows) →
+    transaction.committed ≡ true → transaction.commit ≡ Some commit → write_at transaction.writes write.key ≡ Some write → allows (commit_act write start commit) (rows write.key) ≡ true →
+    Unlocks start rows (acted rows write.key (commit_act write start commit))
+
+-- ---- steps that change a row
+
 abbrev pub UnlockStep : Type 0
 UnlockStep = (start : ℕ) (before after : Rows) (actors : List Actor) → Unlocks start before after → AreSound before actors → AreSound after actors
 
@@ -51,6 +59,11 @@ PrimaryStep = (rows : Rows) (actor : Actor) (others : List Actor) (write : Write
     actor.transaction.writes ≡ write ∷ writes → actor.transaction.commit ≡ Some commit → actor.transaction.committed ≡ false →
     allows (commit_act write actor.start commit) (rows write.key) ≡ true → AreSound rows (actor ∷ others) →
     AreSound (acted rows write.key (commit_act write actor.start commit)) (with_transaction actor (as_committed actor.transaction) ∷ others)
+
+-- where nothing is written the commit needs no act
+abbrev pub EmptyStep : Type 0
+EmptyStep = (rows : Rows) (actor : Actor) (others : List Actor) (commit : ℕ) → actor.transaction.writes ≡ [] → actor.transaction.commit ≡ Some commit → actor.transaction.committed ≡ false →
+    AreSound rows (actor ∷ others) → AreSound rows (with_transaction actor (as_committed actor.transaction) ∷ others)
 
 -- ---- the steps of a recovery
 
@@ -71,11 +84,6 @@ RecoveryRollsForward = (rows : Rows) (recovery : Recovery) (commit : ℕ) → Ti
 
 -- ---- steps that change no row of a transaction
 
--- a draw, a plain write: nothing that is said of actors changes
-pub record Stays (before after : Rows) : Type 0 where
-  pub same : SameReading before after
-  pub traces_same : (start : ℕ) → traces start after ≡ traces start before
-
 abbrev pub StayStep : Type 0
 StayStep = (before after : Rows) (actors : List Actor) → Stays before after → AreSound before actors → AreSound after actors
 
@@ -86,15 +94,26 @@ DrawStep = (rows : Rows) (actor : Actor) (others : List Actor) (commit : ℕ) �
 abbrev pub AnswerStep : Type 0
 AnswerStep = (rows : Rows) (actor : Actor) (others : List Actor) (answer : Answer) → IsRead rows actor.start answer → AreSound rows (actor ∷ others) → AreSound rows (with_answer actor answer ∷ others)
 
+-- An actor may have this recovery: what is said of it holds, it is of another's start, and its lock stands or is that of
+-- the recovery that it had.
+pub record MayRecover (rows : Rows) (actor : Actor) (recovery : Recovery) : Type 0 where
+  pub recovers : Recovers recovery (traces recovery.lock.start rows)
+  pub other : recovery.lock.start ≢ actor.start
+  pub known : ((rows recovery.key).lock ≡ Some recovery.lock) ⊎ ((old : Recovery) × (actor.recovery ≡ Some old) × (old.key ≡ recovery.key) × (old.lock ≡ recovery.lock))
+
 abbrev pub RecoveryStep : Type 0
-RecoveryStep = (rows : Rows) (actor : Actor) (others : List Actor) (recovery : Option Recovery) →
-    IfSome recovery (λ r. Recovers r (traces r.lock.start rows) × (r.lock.start ≢ actor.start) × (((traces r.lock.start rows r.key).lock ≡ Some r.lock) ⊎ ((q : Recovery) × (actor.recovery ≡ Some q) × (q.key ≡ r.key) × (q.lock ≡ r.lock)))) →
+RecoveryStep = (rows : Rows) (actor : Actor) (others : List Actor) (recovery : Option Recovery) → IfSome recovery (MayRecover rows actor) →
     AreSound rows (actor ∷ others) → AreSound rows (with_recovery actor recovery ∷ others)
 
 -- a recovery that begins at a lock that was met
 abbrev pub RecoveryBegins : Type 0
 RecoveryBegins = (rows : Rows) (key : Key) (lock : Lock) → (rows key).lock ≡ Some lock → OnePrimary rows lock.primary lock.start →
-    Recovers (record { key = key; lock = lock; known = None }) (traces lock.start rows)
+    Recovers (new_recovery key lock) (traces lock.start rows)
+
+-- and that then reads its primary
+abbrev pub RecoveryLearns : Type 0
+RecoveryLearns = (rows : Rows) (recovery : Recovery) → recovery.key ≢ recovery.lock.primary → Recovers recovery (traces recovery.lock.start rows) →
+    Recovers (with_known recovery (told recovery.lock.start (rows recovery.lock.primary))) (traces recovery.lock.start rows)
 
 abbrev pub BeginStep : Type 0
 BeginStep = (rows : Rows) (start : ℕ) (others : List Actor) → ((key : Key) → traces start rows key ≡ no_trace) → Each (IsOlder start) others →

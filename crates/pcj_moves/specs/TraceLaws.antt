@@ -1,12 +1,16 @@
 -- What each act changes of what rows have of transactions.
-use Rattle.std.specs.Prelude.{◌≡◌, ◌≢◌, ℕ, true, Some}
+use Rattle.std.specs.Prelude.{◌≡◌, ◌≢◌, ℕ, true, [], ◌∷◌, Some}
 use Rattle.pcj_table.specs.declared.lock.Lock.{Lock}
 use Rattle.pcj_table.specs.declared.version.Version.{Version}
 use Rattle.pcj_table.specs.declared.write.Write.{Write}
+use Rattle.pcj_table.specs.declared.plain.Plain.{Plain}
+use Rattle.pcj_table.specs.declared.row.Row.{Row}
+use Rattle.pcj_table.specs.declared.update.Update.TheVariants.{SetPlain}
 use Rattle.pcj_table.specs.Row.{is_locked_at}
 use Rattle.pcj_table.specs.Table.{Key}
 use Rattle.pcj_mvcc.specs.Acts.{lock_of, prewrite_act, replace_lock_act, roll_back_act}
-use Rattle.pcj_mvcc.specs.Reading.{Rows, acted, allows}
+use Rattle.pcj_mvcc.specs.declared.act.Act.{Act}
+use Rattle.pcj_mvcc.specs.Reading.{Rows, put, acted, allows, SameReading}
 use Rattle.pcj_mvcc.specs.Times.{TimesInOrder}
 use Rattle.pcj_moves.specs.Traces.{Trace, traces, no_trace, lock_trace, version_trace, place}
 
@@ -34,3 +38,17 @@ abbrev pub RollBackChanges : Type 0
 RollBackChanges = (rows : Rows) (key : Key) (start : ℕ) → TimesInOrder rows →
     allows (roll_back_act start) (rows key) ≡ true →
     ChangesTrace start key no_trace rows (acted rows key (roll_back_act start))
+
+-- ---- what changes nothing of any transaction
+
+-- no row is read otherwise, and none has something else of a transaction
+pub record Stays (before after : Rows) : Type 0 where
+  pub same : SameReading before after
+  pub traces_same : (start : ℕ) → traces start after ≡ traces start before
+
+-- a row with the same lock and versions, as the clock's row after a draw
+abbrev pub RowStays : Type 0
+RowStays = (rows : Rows) (key : Key) (row : Row) → row.lock ≡ (rows key).lock → row.versions ≡ (rows key).versions → Stays rows (put rows key row)
+
+abbrev pub PlainStays : Type 0
+PlainStays = (rows : Rows) (key : Key) (act : Act) (plain : Plain) → act.updates ≡ SetPlain plain ∷ [] → Stays rows (acted rows key act)

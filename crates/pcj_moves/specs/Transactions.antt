@@ -1,5 +1,5 @@
 -- A transaction, and what rows have of it (Percolator, OSDI 2010, section 2.2).
-use Rattle.std.specs.Prelude.{◌≡◌, ◌⊎◌, ◌≤◌, ◌<◌, ℕ, suc, Bool, true, false, List, [], ◌∷◌, length, take, get_or, Option, Some, None, is_some}
+use Rattle.std.specs.Prelude.{◌≡◌, ◌⊎◌, ◌≤◌, ◌<◌, ℕ, suc, Bool, true, false, not, ◌&&◌, List, [], ◌∷◌, length, take, get_or, Option, Some, None, is_some}
 use Rattle.std.specs.List.{find}
 use Rattle.std.specs.Option.{option_map}
 use Rattle.pcj_term.specs.Order.{same_bytes}
@@ -30,6 +30,11 @@ primary_of transaction = first_key transaction.writes
 -- the write of a row, if it is among these
 abbrev pub write_at : List Write → Key → Option Write
 write_at writes key = find (λ write. same_bytes key write.key) writes
+
+-- no two of these are of one row
+abbrev pub are_distinct : List Write → Bool
+are_distinct [] = true
+are_distinct (write ∷ writes) = not (is_some (write_at writes write.key)) && are_distinct writes
 
 -- the lock that a row has from its prewrite on
 abbrev pub lock_at : ℕ → Transaction → Key → Option Lock

@@ -1,9 +1,16 @@
 //! What an act of one actor leaves of the transactions, recoveries and reads of others.
 #![tactic(auto)]
 
-mod frame;
+mod actors;
+mod choices;
+mod steps;
+mod traces;
+mod writes;
 
-pub use frame::{
-    actors_begin, actors_go_on, acts_change_one_trace, acts_leave_others, acts_take_actors_on,
-    recoveries_stay, steps_keep_all_sound, writes_stay_hidden,
+pub use actors::{
+    acts_leave_others, acts_leave_recoveries, acts_take_transactions_on, writes_stay_hidden,
 };
+pub use choices::{reads_stand_under_choices, ripe_transactions_were_ripe};
+pub use steps::{actors_begin, actors_go_on, acts_take_locks_away, steps_keep_actors_sound};
+pub use traces::{acts_change_one_trace, other_writes_leave_traces};
+pub use writes::distinct_rows_are_new;

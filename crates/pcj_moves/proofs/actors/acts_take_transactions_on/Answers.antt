@@ -1,5 +1,5 @@
 use Rattle.pcj_moves.proofs.OwnLemmas.{lock_is_of_write, prewrite_goes_on, draw_goes_on, primary_goes_on, secondary_goes_on, roll_back_goes_on, roll_forward_goes_on}
-use Rattle.pcj_moves.proofs.frame.acts_take_actors_on.Goals as goal
+use Rattle.pcj_moves.proofs.actors.acts_take_transactions_on.Goals as goal
 
 pub returns-clause-lock : goal.returns-clause-lock
 returns-clause-lock c = lock_is_of_write

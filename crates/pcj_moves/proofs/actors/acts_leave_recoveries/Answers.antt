@@ -1,5 +1,5 @@
 use Rattle.pcj_moves.proofs.OwnLemmas.{recovers_unlock, recovers_prewrite, of_write_next}
-use Rattle.pcj_moves.proofs.frame.recoveries_stay.Goals as goal
+use Rattle.pcj_moves.proofs.actors.acts_leave_recoveries.Goals as goal
 
 pub returns-clause-unlock : goal.returns-clause-unlock
 returns-clause-unlock c = recovers_unlock

@@ -1,5 +1,5 @@
-use Rattle.pcj_moves.proofs.OtherLemmas.{hidden_read, reads_pass_commit, transacts_stays, recovers_stays, hidden_stays, reads_stay}
-use Rattle.pcj_moves.proofs.frame.acts_leave_others.Goals as goal
+use Rattle.pcj_moves.proofs.OtherLemmas.{transacts_stays, recovers_stays, hidden_stays, reads_stay, reads_pass_commit, hidden_read}
+use Rattle.pcj_moves.proofs.actors.acts_leave_others.Goals as goal
 
 pub returns-clause-transacts : goal.returns-clause-transacts
 returns-clause-transacts c = transacts_stays

@@ -1,5 +1,5 @@
 use Rattle.pcj_moves.proofs.OwnLemmas.{hidden_unlock, hidden_undrawn, hidden_drawn, hidden_committed}
-use Rattle.pcj_moves.proofs.frame.writes_stay_hidden.Goals as goal
+use Rattle.pcj_moves.proofs.actors.writes_stay_hidden.Goals as goal
 
 pub returns-clause-unlock : goal.returns-clause-unlock
 returns-clause-unlock c = hidden_unlock

@@ -1,5 +1,5 @@
 use Rattle.pcj_moves.proofs.TraceLemmas.{locked_trace, prewrite_changes, replace_changes, roll_back_changes}
-use Rattle.pcj_moves.proofs.frame.acts_change_one_trace.Goals as goal
+use Rattle.pcj_moves.proofs.traces.acts_change_one_trace.Goals as goal
 
 pub returns-clause-locked : goal.returns-clause-locked
 returns-clause-locked c = locked_trace
