@@ -91,14 +91,14 @@ each_contains P (actor ∷ actors) other each contains = by (either_actor actor 
 -- ---- the actor that steps, and the others
 
 -- what a step keeps, where C holds of each other actor
-pub record Step (C : Actor → Type 0) (before after : Rows) (actor mover : Actor) : Type 0 where
+pub record KeepsAll (C : Actor → Type 0) (before after : Rows) (actor mover : Actor) : Type 0 where
   pub own : IsSound before actor → IsSound after mover
   pub one : (other : Actor) → C other → ArePair before actor other → ArePair before other actor → IsSound before other → IsSound after other
   pub two : (other third : Actor) → ArePair before other actor → ArePair before other third → ArePair after other third
   pub from_mover : (other : Actor) → C other → IsSound before other → ArePair before actor other → ArePair after mover other
   pub to_mover : (other : Actor) → C other → IsSound before other → ArePair before other actor → ArePair after other mover
 
-pub sound_after : (C : Actor → Type 0) (before after : Rows) (actor mover : Actor) (others : List Actor) → Step C before after actor mover → Each C others →
+pub sound_after : (C : Actor → Type 0) (before after : Rows) (actor mover : Actor) (others : List Actor) → KeepsAll C before after actor mover → Each C others →
     AreSound before (actor ∷ others) → AreSound after (mover ∷ others)
 sound_after C before after actor mover others step cs sound = (
   step.own sound.0,
@@ -133,7 +133,7 @@ pub record OwnStep (before after : Rows) (actor : Actor) (transaction : Transact
   pub of_write : (key : Key) (lock : Lock) → lock_at actor.start actor.transaction key ≡ Some lock → lock_at actor.start transaction key ≡ Some lock
   pub hidden : (reader : ℕ) (answers : List Answer) → IsHidden actor.start transaction (traces actor.start after) reader answers
 
-pub own_step : (before after : Rows) (actor : Actor) (transaction : Transaction) → OwnStep before after actor transaction → Step (λ other. Unit {0}) before after actor (with_transaction actor transaction)
+pub own_step : (before after : Rows) (actor : Actor) (transaction : Transaction) → OwnStep before after actor transaction → KeepsAll (λ other. Unit {0}) before after actor (with_transaction actor transaction)
 own_step before after actor transaction act = record {
   own = λ is. record {
     reads = act.own is.reads;

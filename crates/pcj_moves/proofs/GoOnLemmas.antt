@@ -18,7 +18,7 @@ use Rattle.pcj_moves.specs.StepLaws.{AnswerStep, BeginStep, DrawStep, EmptyStep,
 use Rattle.pcj_moves.proofs.TraceLemmas.{both}
 use Rattle.pcj_moves.proofs.OtherLemmas.{hidden_read, lock_is}
 use Rattle.pcj_moves.proofs.OwnLemmas.{draw_goes_on, hidden_committed, hidden_drawn, hidden_undrawn, lock_is_of_write}
-use Rattle.pcj_moves.proofs.ActorLemmas.{Step, each_holds, each_map, each_sound, either_held, if_some, sound_after}
+use Rattle.pcj_moves.proofs.ActorLemmas.{KeepsAll, each_holds, each_map, each_sound, either_held, if_some, sound_after}
 use Rattle.pcj_moves.proofs.StepLemmas.{trace_lock}
 
 pub draw_step : DrawStep
@@ -81,7 +81,7 @@ empty_step rows actor others commit none drawn not_yet sound = sound_after _ row
     free : (key : Key) → version_trace (as_version commit (lock_at actor.start transaction key)) ≡ no_trace
     free key = ap (λ lock. version_trace (as_version commit lock)) (nothing_locked actor.start transaction none key)
 
-    step : Step (λ other. Unit {0}) rows rows actor (with_transaction actor (as_committed transaction))
+    step : KeepsAll (λ other. Unit {0}) rows rows actor (with_transaction actor (as_committed transaction))
     step = record {
       own = λ is. record {
         reads = is.reads;
@@ -148,7 +148,7 @@ answer_step rows actor others answer read sound = (own sound.0, each_map (IsSoun
 pub recovery_step : RecoveryStep
 recovery_step rows actor others recovery is sound = sound_after _ rows rows actor (with_recovery actor recovery) others step (each_holds _ (λ other. tt) others) sound
   where
-    step : Step (λ other. Unit {0}) rows rows actor (with_recovery actor recovery)
+    step : KeepsAll (λ other. Unit {0}) rows rows actor (with_recovery actor recovery)
     step = record {
       own = λ old. record { reads = old.reads; transacts = old.transacts; recovers = if_some _ _ (λ r may. (may.recovers, may.other)) recovery is };
       one = λ other c to from old. old;

@@ -3,6 +3,9 @@ pub mod WriteLemmas
 pub mod OtherLemmas
 pub mod OwnLemmas
 pub mod ActorLemmas
+pub mod OrderLemmas
 pub mod StepLemmas
 pub mod GoOnLemmas
 pub mod ChoiceLemmas
+pub mod ConsistencyLemmas
+pub mod MoveLemmas

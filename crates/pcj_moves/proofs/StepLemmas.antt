@@ -1,5 +1,5 @@
 -- A step of one actor that changes a row, with any others.
-use Rattle.std.proofs.Common.{◌≡◌, ◌≢◌, ◌⊎◌, inl, inr, ◌<◌, ℕ, cond, is_some, ◌==◌, List, ◌∷◌, length, take, Option, Some, None, refl, ap, sym, subst, ◌∙◌, arith}
+use Rattle.std.proofs.Common.{◌≡◌, ◌≢◌, ◌⊎◌, inl, inr, ◌<◌, ℕ, true, cond, is_some, ◌==◌, List, ◌∷◌, length, take, Option, Some, None, refl, ap, sym, subst, ◌∙◌, arith}
 use Rattle.std.proofs.lemmas.Bool.{and_parts, eq-eqb}
 use Rattle.std.proofs.lemmas.List.{take_all}
 use Rattle.std.specs.Option.{option_map}
@@ -8,11 +8,13 @@ use Rattle.pcj_table.specs.Table.{Key}
 use Rattle.pcj_table.specs.declared.lock.Lock.{Lock}
 use Rattle.pcj_table.specs.declared.row.Row.{Row}
 use Rattle.pcj_table.specs.declared.version.Version.{Version}
+use Rattle.pcj_table.specs.declared.write.Write.{Write}
 use Rattle.pcj_mvcc.proofs.Laws.{commits_stand, prewrite_keeps, primary_commits, roll_back_keeps, roll_forward_keeps}
 use Rattle.pcj_mvcc.proofs.Rows.{put_same}
 use Rattle.pcj_mvcc.specs.Acts.{commit_act, lock_of, prewrite_act, version_of}
 use Rattle.pcj_mvcc.specs.Laws.{StandsAtOnce}
-use Rattle.pcj_mvcc.specs.Reading.{OnePrimary, OnlyLock, Rows, SameReading, acted, committed}
+use Rattle.pcj_mvcc.specs.Reading.{OnePrimary, OnlyLock, Rows, SameReading, acted, allows, committed}
+use Rattle.pcj_mvcc.specs.Times.{TimesInOrder}
 use Rattle.pcj_moves.specs.Traces.{Trace, Traces, lock_from, lock_trace, no_trace, place, traces, version_trace}
 use Rattle.pcj_moves.specs.Transactions.{IsHeld, IsLost, IsRipe, IsWon, Transaction, Transacts, as_committed, as_version, first_key, lock_at, primary_of, with_next, write_at}
 use Rattle.pcj_moves.specs.Recoveries.{Knows, Recovers, Recovery}
@@ -113,9 +115,16 @@ names_one rows start transaction transacts key l e same =
     sym (names_primary start (primary_of transaction) (write_at (take transaction.prewritten transaction.writes) key) l
     (lock_is_of_write start transaction (traces start rows) key l transacts (trace_lock rows key start l e same)))
 
-pub secondary_unlocks : SecondaryUnlocks
-secondary_unlocks rows start transaction write commit order transacts done drawn is allowed =
-    roll_forward_unlocks rows write.key lock commit order allowed only (names_one rows start transaction transacts) differs now
+-- what a committed transaction has in a row that it writes, while its lock stands there
+pub record Further (rows : Rows) (start : ℕ) (transaction : Transaction) (write : Write) (commit : ℕ) : Type 0 where
+  pub only : OnlyLock rows write.key (lock_of write start (primary_of transaction))
+  pub differs : write.key ≢ primary_of transaction
+  pub now : committed rows (primary_of transaction) start ≡ Some commit
+
+pub further : (rows : Rows) (start : ℕ) (transaction : Transaction) (write : Write) (commit : ℕ) → TimesInOrder rows → Transacts start transaction (traces start rows) →
+    transaction.committed ≡ true → transaction.commit ≡ Some commit → write_at transaction.writes write.key ≡ Some write → allows (commit_act write start commit) (rows write.key) ≡ true →
+    Further rows start transaction write commit
+further rows start transaction write commit order transacts done drawn is allowed = record { only = only; differs = differs; now = now }
   where
     at : Traces
     at = traces start rows
@@ -147,6 +156,11 @@ secondary_unlocks rows start transaction write commit order transacts done drawn
 
     now : committed rows (primary_of transaction) start ≡ Some commit
     now = ap (λ (t : Trace). option_map (λ v. v.commit) t.version) won.primary_there ∙ some (lock_at start transaction (primary_of transaction)) refl
+
+pub secondary_unlocks : SecondaryUnlocks
+secondary_unlocks rows start transaction write commit order transacts done drawn is allowed =
+    let facts = further rows start transaction write commit order transacts done drawn is allowed in
+    roll_forward_unlocks rows write.key (lock_of write start (primary_of transaction)) commit order allowed facts.only (names_one rows start transaction transacts) facts.differs facts.now
 
 -- ---- the prewrite of a row
 

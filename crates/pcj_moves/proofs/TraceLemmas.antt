@@ -42,7 +42,7 @@ changes_at start key new rows row own others = record {
     by q false = refl
 
 -- a row without versions from a time on has none of the transaction that started then
-none_of_start : (start : ℕ) (versions : List Version) → list_all starts_first versions ≡ true → are_below start versions ≡ true → find (λ version. version.start == start) versions ≡ None
+pub none_of_start : (start : ℕ) (versions : List Version) → list_all starts_first versions ≡ true → are_below start versions ≡ true → find (λ version. version.start == start) versions ≡ None
 none_of_start start [] first below = refl
 none_of_start start (version ∷ versions) first below =
     let lower : version.commit < start = ltb-true version.commit start (and_parts _ _ below).0 in

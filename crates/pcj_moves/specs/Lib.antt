@@ -3,8 +3,10 @@ pub mod Transactions
 pub mod Recoveries
 pub mod Reads
 pub mod Actors
+pub mod Moves
 pub mod TraceLaws
 pub mod WriteLaws
 pub mod ActorLaws
 pub mod StepLaws
 pub mod ChoiceLaws
+pub mod MoveLaws
