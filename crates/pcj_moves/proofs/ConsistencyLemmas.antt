@@ -105,7 +105,7 @@ forwarded rows key lock commit is = record {
 
 -- ---- the moves of a recovery
 
-its_recovery : (rows : Rows) (actor : Actor) (recovery : Recovery) → IsSound rows actor → actor.recovery ≡ Some recovery → Recovers recovery (traces recovery.lock.start rows) × (recovery.lock.start ≢ actor.start)
+pub its_recovery : (rows : Rows) (actor : Actor) (recovery : Recovery) → IsSound rows actor → actor.recovery ≡ Some recovery → Recovers recovery (traces recovery.lock.start rows) × (recovery.lock.start ≢ actor.start)
 its_recovery rows actor recovery sound is = subst (λ found. IfSome found (λ r. Recovers r (traces r.lock.start rows) × (r.lock.start ≢ actor.start))) is sound.recovers
 
 with_recovery_kept : (number : ℕ) (rows : Rows) (actor : Actor) (others : List Actor) (recovery : Option Recovery) → IfSome recovery (MayRecover rows actor) → IfSome recovery (λ r. r.lock.start < number) →

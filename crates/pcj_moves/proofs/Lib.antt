@@ -9,3 +9,4 @@ pub mod GoOnLemmas
 pub mod ChoiceLemmas
 pub mod ConsistencyLemmas
 pub mod MoveLemmas
+pub mod StandingLemmas

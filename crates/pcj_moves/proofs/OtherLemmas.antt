@@ -28,14 +28,14 @@ pub reads_stay : ReadsStay
 reads_stay before after reader answers same reads answer held key covered = ap (λ vs. put_of (newest (versions_up_to reader vs))) (same key) ∙ reads answer held key covered
 
 -- a ripe transaction has all its locks
-ripe_is_held : (start : ℕ) (transaction : Transaction) (at : Traces) (commit : ℕ) → Transacts start transaction at → IsRipe start transaction at commit → IsHeld (lock_at start transaction) at
+pub ripe_is_held : (start : ℕ) (transaction : Transaction) (at : Traces) (commit : ℕ) → Transacts start transaction at → IsRipe start transaction at commit → IsHeld (lock_at start transaction) at
 ripe_is_held start transaction at commit transacts ripe = by (transacts.undone ripe.undone)
   where
     by : IsHeld (lock_at start transaction) at ⊎ IsLost (primary_of transaction) (lock_at start transaction) at → IsHeld (lock_at start transaction) at
     by (inl held) = held
     by (inr lost) = absurd (let free = ap (λ (t : Trace). is_some t.lock) lost.primary_gone in let locked = ripe.locked in cc)
 
-not_locked : (lock : Option Lock) (start : ℕ) → lock_from start lock ≡ None → is_locked_at start lock ≡ false
+pub not_locked : (lock : Option Lock) (start : ℕ) → lock_from start lock ≡ None → is_locked_at start lock ≡ false
 not_locked None start none = refl
 not_locked (Some lock) start none = by (lock.start == start) refl
   where

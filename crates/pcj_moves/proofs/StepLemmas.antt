@@ -1,5 +1,5 @@
 -- A step of one actor that changes a row, with any others.
-use Rattle.std.proofs.Common.{◌≡◌, ◌≢◌, ◌⊎◌, inl, inr, ◌<◌, ℕ, true, cond, is_some, ◌==◌, List, ◌∷◌, length, take, Option, Some, None, refl, ap, sym, subst, ◌∙◌, arith}
+use Rattle.std.proofs.Common.{◌≡◌, ◌≢◌, ◌⊎◌, inl, inr, ◌<◌, ℕ, true, false, cond, is_some, ◌==◌, List, ◌∷◌, length, take, Option, Some, None, refl, ap, sym, subst, ◌∙◌, arith}
 use Rattle.std.proofs.lemmas.Bool.{and_parts, eq-eqb}
 use Rattle.std.proofs.lemmas.List.{take_all}
 use Rattle.std.specs.Option.{option_map}
@@ -21,13 +21,19 @@ use Rattle.pcj_moves.specs.Recoveries.{Knows, Recovers, Recovery}
 use Rattle.pcj_moves.specs.Reads.{Answer, IsHidden, Reads}
 use Rattle.pcj_moves.specs.Actors.{Actor, ArePair, IsSound}
 use Rattle.pcj_moves.specs.TraceLaws.{ChangesTrace}
-use Rattle.pcj_moves.specs.StepLaws.{PrewriteStep, PrimaryStep, RecoveryDropsPrimary, RecoveryRollsBack, RecoveryRollsForward, RollBackUnlocks, RollForwardUnlocks, SecondaryUnlocks, StayStep, UnlockStep}
+use Rattle.pcj_moves.specs.StepLaws.{PrewriteStep, PrimaryStep, RecoveryDropsPrimary, RecoveryRollsBack, RecoveryRollsForward, RollBackUnlocks, RollForwardUnlocks, SecondaryUnlocks, StayStep, UnlockStep, Unlocks}
 use Rattle.pcj_moves.proofs.TraceLemmas.{locked_trace, prewrite_changes, replace_changes, roll_back_changes}
 use Rattle.pcj_moves.proofs.OtherLemmas.{hidden_stays, reads_pass_commit, reads_stay, recovers_stays, transacts_stays}
 use Rattle.pcj_moves.proofs.OwnLemmas.{hidden_committed, hidden_undrawn, hidden_unlock, lock_is_of_write, names_primary, of_write_next, prewrite_goes_on, primary_first, primary_goes_on, recovers_prewrite, recovers_unlock, roll_back_goes_on, roll_forward_goes_on}
 use Rattle.pcj_moves.proofs.ActorLemmas.{OwnStep, by_number, each_holds, if_some, own_step, sound_after, sounds_stay}
 
 -- ---- a lock is taken away
+
+pub unlock_hides : (start : ℕ) (before after : Rows) → Unlocks start before after → (other : ℕ) (transaction : Transaction) (reader : ℕ) (answers : List Answer) → IsHidden other transaction (traces other before) reader answers → IsHidden other transaction (traces other after) reader answers
+unlock_hides start before after unlocks other transaction reader answers held = by_number other start
+    (λ same. subst (λ s. IsHidden s transaction (traces s before) reader answers → IsHidden s transaction (traces s after) reader answers) (sym same)
+    (λ h. subst (λ at. IsHidden start transaction at reader answers) (sym unlocks.changes.own) (hidden_unlock start transaction (traces start before) unlocks.key unlocks.new reader answers unlocks.free h)) held)
+    (λ apart. hidden_stays start unlocks.key unlocks.new before after unlocks.changes other transaction reader answers apart held)
 
 pub unlock_step : UnlockStep
 unlock_step start before after actors unlocks = sounds_stay (λ actor. Unit {0}) before after (λ actor c. one actor) (λ actor other c. two actor other) actors (each_holds _ (λ actor. tt) actors)
@@ -43,12 +49,6 @@ unlock_step start before after actors unlocks = sounds_stay (λ actor. Unit {0})
         (λ r. subst (Recovers recovery) (sym unlocks.changes.own) (recovers_unlock recovery (traces start before) unlocks.key unlocks.lock unlocks.new r unlocks.was unlocks.free)) held)
         (λ apart. recovers_stays start unlocks.key unlocks.new before after unlocks.changes recovery apart held)
 
-    hidden : (other : ℕ) (transaction : Transaction) (reader : ℕ) (answers : List Answer) → IsHidden other transaction (traces other before) reader answers → IsHidden other transaction (traces other after) reader answers
-    hidden other transaction reader answers held = by_number other start
-        (λ same. subst (λ s. IsHidden s transaction (traces s before) reader answers → IsHidden s transaction (traces s after) reader answers) (sym same)
-        (λ h. subst (λ at. IsHidden start transaction at reader answers) (sym unlocks.changes.own) (hidden_unlock start transaction (traces start before) unlocks.key unlocks.new reader answers unlocks.free h)) held)
-        (λ apart. hidden_stays start unlocks.key unlocks.new before after unlocks.changes other transaction reader answers apart held)
-
     one : (actor : Actor) → IsSound before actor → IsSound after actor
     one actor sound = record {
       reads = reads_stay before after actor.start actor.answers unlocks.same sound.reads;
@@ -57,7 +57,7 @@ unlock_step start before after actors unlocks = sounds_stay (λ actor. Unit {0})
     }
 
     two : (actor other : Actor) → ArePair before actor other → ArePair after actor other
-    two actor other pair = record { apart = pair.apart; hidden = hidden actor.start actor.transaction other.start other.answers pair.hidden; recovers = pair.recovers }
+    two actor other pair = record { apart = pair.apart; hidden = unlock_hides start before after unlocks actor.start actor.transaction other.start other.answers pair.hidden; recovers = pair.recovers }
 
 -- the primary of a transaction is the one that its locks name
 primary_is : (start : ℕ) (transaction : Transaction) (rows : Rows) (primary key : Key) (lock : Lock) → OnePrimary rows primary start → (rows key).lock ≡ Some lock → lock.start ≡ start →
@@ -164,6 +164,13 @@ secondary_unlocks rows start transaction write commit order transacts done drawn
 
 -- ---- the prewrite of a row
 
+pub uncommitted : (rows : Rows) (start : ℕ) (transaction : Transaction) → Transacts start transaction (traces start rows) → transaction.committed ≡ false → committed rows (primary_of transaction) start ≡ None
+uncommitted rows start transaction transacts not_yet = by (transacts.undone not_yet)
+  where
+    by : IsHeld (lock_at start transaction) (traces start rows) ⊎ IsLost (primary_of transaction) (lock_at start transaction) (traces start rows) → committed rows (primary_of transaction) start ≡ None
+    by (inl held) = ap (λ (t : Trace). option_map (λ v. v.commit) t.version) (held (primary_of transaction))
+    by (inr lost) = ap (λ (t : Trace). option_map (λ v. v.commit) t.version) lost.primary_gone
+
 pub prewrite_step : PrewriteStep
 prewrite_step rows actor others write order next allowed sound = sound_after _ rows after actor _ others (own_step rows after actor (with_next transaction) act) (each_holds _ (λ other. tt) others) sound
   where
@@ -176,12 +183,8 @@ prewrite_step rows actor others write order next allowed sound = sound_after _ r
     changes : ChangesTrace actor.start write.key (lock_trace (Some (lock_of write actor.start (primary_of actor.transaction)))) rows after
     changes = prewrite_changes rows write actor.start (primary_of actor.transaction) order allowed
 
-    undone : IsHeld (lock_at actor.start transaction) (traces actor.start rows) ⊎ IsLost (primary_of transaction) (lock_at actor.start transaction) (traces actor.start rows) → committed rows (primary_of transaction) actor.start ≡ None
-    undone (inl held) = ap (λ (t : Trace). option_map (λ v. v.commit) t.version) (held (primary_of actor.transaction))
-    undone (inr lost) = ap (λ (t : Trace). option_map (λ v. v.commit) t.version) lost.primary_gone
-
     same : SameReading rows after
-    same = prewrite_keeps rows write actor.start (primary_of actor.transaction) allowed (undone (sound.0.transacts.undone next.committed))
+    same = prewrite_keeps rows write actor.start (primary_of actor.transaction) allowed (uncommitted rows actor.start actor.transaction sound.0.transacts next.committed)
 
     act : OwnStep rows after actor (with_next actor.transaction)
     act = record {
@@ -202,6 +205,51 @@ prewrite_step rows actor others write order next allowed sound = sound_after _ r
 reads_before : (start commit : ℕ) (before after : Rows) (reader : ℕ) (answers : List Answer) → StandsAtOnce start commit before after → reader < commit → Reads before reader answers → Reads after reader answers
 reads_before start commit before after reader answers at_once earlier reads answer held key covered = at_once.before key reader earlier ∙ reads answer held key covered
 
+-- what the commit of the primary's row does
+pub record AtPrimary (rows : Rows) (start : ℕ) (transaction : Transaction) (write : Write) (commit : ℕ) : Type 0 where
+  pub was : traces start rows write.key ≡ lock_trace (Some (lock_of write start write.key))
+  pub ripe : IsRipe start transaction (traces start rows) commit
+  pub at_once : StandsAtOnce start commit rows (acted rows write.key (commit_act write start commit))
+
+pub at_primary : (rows : Rows) (start : ℕ) (transaction : Transaction) (write : Write) (writes : List Write) (commit : ℕ) → TimesInOrder rows → Transacts start transaction (traces start rows) →
+    transaction.writes ≡ write ∷ writes → transaction.commit ≡ Some commit → transaction.committed ≡ false → allows (commit_act write start commit) (rows write.key) ≡ true →
+    AtPrimary rows start transaction write commit
+at_primary rows start transaction write writes commit order transacts is drawn not_yet allowed = record { was = was; ripe = ripe; at_once = at_once }
+  where
+    at : Traces
+    at = traces start rows
+
+    lock : Lock
+    lock = lock_of write start write.key
+
+    primary : primary_of transaction ≡ write.key
+    primary = ap first_key is
+
+    taken : take transaction.prewritten transaction.writes ≡ write ∷ writes
+    taken = ap (λ n. take n transaction.writes) (transacts.all commit drawn) ∙ take_all (length transaction.writes) transaction.writes (omega arith) ∙ is
+
+    written : lock_at start transaction write.key ≡ Some lock
+    written = ap (λ ws. option_map (λ w. lock_of w start (primary_of transaction)) (write_at ws write.key)) taken
+        ∙ ap (λ b. option_map (λ w. lock_of w start (primary_of transaction)) (cond b (Some write) (write_at writes write.key))) (same_bytes_itself write.key)
+        ∙ ap (λ k. Some (lock_of write start k)) primary
+
+    only : OnlyLock rows write.key lock
+    only l e same = let one : Some l ≡ Some lock = sym (lock_is_of_write start transaction at write.key l transacts (trace_lock rows write.key start l e same)) ∙ written in cc
+
+    one_primary : OnePrimary rows write.key start
+    one_primary key l e same = names_one rows start transaction transacts key l e same ∙ primary
+
+    was : at write.key ≡ lock_trace (Some lock)
+    was = let found = locked_trace rows write.key start order (and_parts _ _ allowed).0 in found.3 ∙ ap (λ l. lock_trace (Some l)) (only found.0 found.1 found.2)
+
+    ripe : IsRipe start transaction at commit
+    ripe = record { drawn = drawn; undone = not_yet; locked = ap (λ k. is_some (at k).lock) primary ∙ ap (λ (t : Trace). is_some t.lock) was }
+
+    at_once : StandsAtOnce start commit rows (acted rows write.key (commit_act write start commit))
+    at_once = commits_stand start commit rows _
+        (primary_commits rows write start commit allowed only one_primary (ap (λ (t : Trace). option_map (λ v. v.commit) t.version) was))
+        order.last (let later = transacts.later commit drawn in omega arith)
+
 pub primary_step : PrimaryStep
 primary_step rows actor others write writes commit order is drawn not_yet allowed sound = sound_after _ rows after actor _ others (own_step rows after actor (as_committed actor.transaction) act) (each_holds _ (λ other. tt) others) sound
   where
@@ -217,54 +265,24 @@ primary_step rows actor others write writes commit order is drawn not_yet allowe
     after : Rows
     after = acted rows write.key (commit_act write actor.start commit)
 
-    primary : primary_of transaction ≡ write.key
-    primary = ap first_key is
-
-    taken : take transaction.prewritten transaction.writes ≡ write ∷ writes
-    taken = ap (λ n. take n transaction.writes) (sound.0.transacts.all commit drawn) ∙ take_all (length transaction.writes) transaction.writes (omega arith) ∙ is
-
-    written : lock_at actor.start transaction write.key ≡ Some lock
-    written = ap (λ ws. option_map (λ w. lock_of w actor.start (primary_of transaction)) (write_at ws write.key)) taken
-        ∙ ap (λ b. option_map (λ w. lock_of w actor.start (primary_of transaction)) (cond b (Some write) (write_at writes write.key))) (same_bytes_itself write.key)
-        ∙ ap (λ k. Some (lock_of write actor.start k)) primary
-
-    of_write : (key : Key) (l : Lock) → (rows key).lock ≡ Some l → l.start ≡ actor.start → lock_at actor.start transaction key ≡ Some l
-    of_write key l e same = lock_is_of_write actor.start transaction at key l sound.0.transacts (trace_lock rows key actor.start l e same)
-
-    only : OnlyLock rows write.key lock
-    only l e same = let one : Some l ≡ Some lock = sym (of_write write.key l e same) ∙ written in cc
-
-    one_primary : OnePrimary rows write.key actor.start
-    one_primary key l e same = sym (names_primary actor.start (primary_of transaction) (write_at (take transaction.prewritten transaction.writes) key) l (of_write key l e same)) ∙ primary
-
-    was : at write.key ≡ lock_trace (Some lock)
-    was = let found = locked_trace rows write.key actor.start order (and_parts _ _ allowed).0 in found.3 ∙ ap (λ l. lock_trace (Some l)) (only found.0 found.1 found.2)
-
-    changes : ChangesTrace actor.start write.key (version_trace (Some (version_of lock commit))) rows after
-    changes = replace_changes rows write.key (version_of lock commit) order allowed
-
-    at_once : StandsAtOnce actor.start commit rows after
-    at_once = commits_stand actor.start commit rows after
-        (primary_commits rows write actor.start commit allowed only one_primary (ap (λ (t : Trace). option_map (λ v. v.commit) t.version) was))
-        order.last (let later = sound.0.transacts.later commit drawn in omega arith)
-
-    ripe : IsRipe actor.start transaction at commit
-    ripe = record { drawn = drawn; undone = not_yet; locked = ap (λ k. is_some (at k).lock) primary ∙ ap (λ (t : Trace). is_some t.lock) was }
+    facts : AtPrimary rows actor.start transaction write commit
+    facts = at_primary rows actor.start transaction write writes commit order sound.0.transacts is drawn not_yet allowed
 
     goes : Transacts actor.start (as_committed transaction) (place at write.key (version_trace (Some (version_of lock commit))))
-    goes = subst (λ k. Transacts actor.start (as_committed transaction) (place at k (version_trace (Some (version_of lock commit))))) primary
-        (primary_goes_on actor.start transaction at lock commit sound.0.transacts not_yet drawn (ap at primary ∙ was))
+    goes = let primary : primary_of transaction ≡ write.key = ap first_key is in
+        subst (λ k. Transacts actor.start (as_committed transaction) (place at k (version_trace (Some (version_of lock commit))))) primary
+        (primary_goes_on actor.start transaction at lock commit sound.0.transacts not_yet drawn (ap at primary ∙ facts.was))
 
     act : OwnStep rows after actor (as_committed actor.transaction)
     act = record {
       key = write.key;
       new = version_trace (Some (version_of lock commit));
-      changes = changes;
+      changes = replace_changes rows write.key (version_of lock commit) order allowed;
       commit = refl;
-      own = reads_before actor.start commit rows after actor.start actor.answers at_once (sound.0.transacts.later commit drawn);
-      reads = λ other pair. reads_pass_commit actor.start commit transaction rows after other.start other.answers sound.0.transacts ripe pair.hidden at_once;
+      own = reads_before actor.start commit rows after actor.start actor.answers facts.at_once (sound.0.transacts.later commit drawn);
+      reads = λ other pair. reads_pass_commit actor.start commit transaction rows after other.start other.answers sound.0.transacts facts.ripe pair.hidden facts.at_once;
       goes = λ held. goes;
-      recovers = λ recovery e held. recovers_unlock recovery at write.key lock _ held was refl;
+      recovers = λ recovery e held. recovers_unlock recovery at write.key lock _ held facts.was refl;
       of_write = λ key l e. e;
       hidden = λ reader answers. hidden_committed actor.start (as_committed transaction) (traces actor.start after) reader answers refl;
     }

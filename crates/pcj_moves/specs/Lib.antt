@@ -10,3 +10,4 @@ pub mod ActorLaws
 pub mod StepLaws
 pub mod ChoiceLaws
 pub mod MoveLaws
+pub mod StandingLaws
