@@ -10,3 +10,5 @@ pub mod ChoiceLemmas
 pub mod ConsistencyLemmas
 pub mod MoveLemmas
 pub mod StandingLemmas
+pub mod ReadLemmas
+pub mod RunLemmas

@@ -18,7 +18,7 @@ use Rattle.pcj_moves.proofs.ConsistencyLemmas.{each_older, more_below, move_is_c
 
 -- ---- an actor to the front, and back
 
-comes_first : (number : ℕ) (rows : Rows) (front : List Actor) (actor : Actor) (back : List Actor) →
+pub comes_first : (number : ℕ) (rows : Rows) (front : List Actor) (actor : Actor) (back : List Actor) →
     IsConsistent (record { number = number; rows = rows; actors = front ++ (actor ∷ back) }) → IsConsistent (record { number = number; rows = rows; actors = actor ∷ (front ++ back) })
 comes_first number rows front actor back is = record {
   times = is.times;

@@ -11,3 +11,5 @@ pub mod StepLaws
 pub mod ChoiceLaws
 pub mod MoveLaws
 pub mod StandingLaws
+pub mod ReadLaws
+pub mod RunLaws
