@@ -1,4 +1,13 @@
-//! What an act of one actor leaves of the transactions, recoveries and reads of others.
+//! What actors may do to the rows of a table beside one another, and what stays true of all of them whoever moves next.
+//!
+//! An actor holds its start, what it has read then, a transaction, and a recovery of a lock that it met: plain data,
+//! as `Actor`, `Transaction`, `Recovery` and `Answer` of `specs/` have them. What rows have of one start is its trace,
+//! and all that is said of a transaction or a recovery is said of traces. An act changes the trace of one start in
+//! one row, so it leaves every other transaction and recovery as it was.
+//!
+//! The transactions are Percolator's (OSDI 2010, section 2.2). The laws of one act have that act in their premise,
+//! and any list of other actors. Moves are data, with the rules that allow them; a run is a list of moves of any
+//! actors, and what it keeps and changes is said of every run.
 #![tactic(auto)]
 
 mod actors;
