@@ -16,7 +16,7 @@ use Rattle.pcj_mvcc.specs.Acts.{commit_act, lock_of, prewrite_act, roll_back_act
 use Rattle.pcj_mvcc.specs.Reading.{OnePrimary, Rows, acted, allows, committed, put}
 use Rattle.pcj_mvcc.specs.Times.{AllVersions, TimesInOrder, starts_first}
 use Rattle.pcj_moves.specs.Traces.{Trace, traces}
-use Rattle.pcj_moves.specs.Transactions.{as_committed, new_transaction, primary_of, with_commit, with_next}
+use Rattle.pcj_moves.specs.Transactions.{IsNext, as_committed, new_transaction, primary_of, with_commit, with_next, write_at}
 use Rattle.pcj_moves.specs.Recoveries.{Knows, Recovers, Recovery, new_recovery, told, with_known}
 use Rattle.pcj_moves.specs.Actors.{Actor, ArePair, AreSound, Each, IsBelow, IsOlder, IsSound, with_answer, with_recovery, with_transaction}
 use Rattle.pcj_moves.specs.Moves.{AreBelow, CommitNothing, CommitPrimary, CommitSecondary, Draw, DropPrimary, EndRecovery, IsConsistent, Learn, LocksNameOne, MayCommitPrimary, MayCommitSecondary, MayDraw, MayMeet, MayPrewrite, Meet, NumbersAreOwn, Plan, Prewrite, Read, RollBack, RollForward, WritePlain, is_own}
@@ -24,6 +24,7 @@ use Rattle.pcj_moves.specs.TraceLaws.{ChangesTrace}
 use Rattle.pcj_moves.specs.StepLaws.{MayRecover}
 use Rattle.pcj_moves.specs.MoveLaws.{MoveIsConsistent}
 use Rattle.pcj_moves.proofs.TraceLemmas.{prewrite_changes, row_stays, unequal_false}
+use Rattle.pcj_moves.proofs.WriteLemmas.{distinct_are_there, first_of, next_is_new, undrawn_is_undone}
 use Rattle.pcj_moves.proofs.OtherLemmas.{lock_is}
 use Rattle.pcj_moves.proofs.ActorLemmas.{by_number, each_holds, each_map, if_some}
 use Rattle.pcj_moves.proofs.StepLemmas.{further, names_one, prewrite_step, primary_step, recovery_drops_primary, recovery_rolls_back, recovery_rolls_forward, secondary_unlocks, stay_step, trace_lock, unlock_step}
@@ -162,6 +163,15 @@ roll_forward_kept number rows actor others recovery commit mine known allowed is
 
 -- ---- the moves of a transaction
 
+pub its_next : (rows : Rows) (actor : Actor) (write : Write) → IsSound rows actor → MayPrewrite rows actor write → IsNext actor.transaction write
+its_next rows actor write sound may = next_is_new actor.start actor.transaction (traces actor.start rows) write sound.transacts may.next may.undrawn
+
+pub its_first : (rows : Rows) (actor : Actor) (write : Write) (commit : ℕ) → MayCommitPrimary rows actor write commit → (rest : List Write) × (actor.transaction.writes ≡ write ∷ rest)
+its_first rows actor write commit may = first_of actor.transaction.writes write may.first
+
+pub its_write : (rows : Rows) (actor : Actor) (write : Write) (commit : ℕ) → IsSound rows actor → MayCommitSecondary rows actor write commit → write_at actor.transaction.writes write.key ≡ Some write
+its_write rows actor write commit sound may = distinct_are_there actor.transaction.writes may.place write sound.transacts.distinct may.written
+
 -- a lock of another start stood before
 stood_before : (start : ℕ) (key : Key) (new : Trace) (before after : Rows) → ChangesTrace start key new before after → (other : Key) (lock : Lock) → (after other).lock ≡ Some lock → lock.start ≢ start → (before other).lock ≡ Some lock
 stood_before start key new before after changes other lock e apart =
@@ -177,7 +187,7 @@ prewrite_kept number rows actor others write may is = record {
   sound = sound;
   older = (record { below = record { start = is.older.0.below.start; commit = is.older.0.below.commit }; recovers = is.older.0.recovers }, is.older.1);
   own = (
-    record { start = same (λ first last. not (last == actor.start)) is.own.0.start; commit = λ commit e. absurd (let none = may.next.commit in cc); locks = λ commit e. absurd (let none = may.next.commit in cc) },
+    record { start = same (λ first last. not (last == actor.start)) is.own.0.start; commit = λ commit e. absurd (let none = may.undrawn in cc); locks = λ commit e. absurd (let none = may.undrawn in cc) },
     each_map (λ other. ArePair rows actor other × ArePair rows other actor) (NumbersAreOwn rows) (NumbersAreOwn after) (λ other pair own. others_own other pair.1 own) others is.sound.1 is.own.1,
   );
 }
@@ -186,7 +196,7 @@ prewrite_kept number rows actor others write may is = record {
     after = acted rows write.key (prewrite_act write actor.start (primary_of actor.transaction))
 
     sound : AreSound after (with_transaction actor (with_next actor.transaction) ∷ others)
-    sound = prewrite_step rows actor others write is.times may.next may.allowed is.sound
+    sound = prewrite_step rows actor others write is.times (its_next rows actor write is.sound.0 may) may.allowed is.sound
 
     before : (key : Key) (lock : Lock) → (after key).lock ≡ Some lock → lock.start ≢ actor.start → (rows key).lock ≡ Some lock
     before = stood_before actor.start write.key _ rows after (prewrite_changes rows write actor.start (primary_of actor.transaction) is.times may.allowed)
@@ -223,7 +233,7 @@ draw_kept number rows actor others commit may is = record {
   times = is.times;
   named = is.named;
   below = more_below number (suc commit) rows (let le = may.granted in omega arith) is.below;
-  sound = draw_step rows actor others commit may.all may.undone (each_map (λ other. Unit {0}) (IsOlder number) (IsBelow commit) (λ other c older. lower other older) (actor ∷ others) (each_holds _ (λ other. tt) (actor ∷ others)) is.older) is.sound;
+  sound = draw_step rows actor others commit may.all (undrawn_is_undone actor.start actor.transaction (traces actor.start rows) is.sound.0.transacts may.undrawn) (each_map (λ other. Unit {0}) (IsOlder number) (IsBelow commit) (λ other c older. lower other older) (actor ∷ others) (each_holds _ (λ other. tt) (actor ∷ others)) is.older) is.sound;
   older = (
     record {
       below = record { start = (let lt = is.older.0.below.start in let le = may.granted in omega arith); commit = λ c e. (let same : commit ≡ c = cc in omega arith) };
@@ -272,7 +282,7 @@ primary_kept number rows actor others write commit may is = record {
     versions = versions (λ first last. nat_lt last number) (lt-ltb commit number (is.older.0.below.commit commit may.drawn)) is.below.versions;
     locks = λ key lock e. is.below.locks key lock (fewer key lock e);
   };
-  sound = primary_step rows actor others write may.rest commit is.times may.first may.drawn may.undone may.allowed is.sound;
+  sound = primary_step rows actor others write (its_first rows actor write commit may).0 commit is.times (its_first rows actor write commit may).1 may.drawn may.undone may.allowed is.sound;
   older = (record { below = record { start = is.older.0.below.start; commit = is.older.0.below.commit }; recovers = is.older.0.recovers }, is.older.1);
   own = (
     record {
@@ -322,14 +332,14 @@ secondary_kept number rows actor others write commit may is =
     rows_kept number rows (acted rows write.key (commit_act write actor.start commit)) (actor ∷ others)
     (replace_in_order rows write.key (version_of (lock_of write actor.start (primary_of actor.transaction)) commit) may.allowed (is.sound.0.transacts.later commit may.drawn) is.times)
     (forwarded rows write.key (lock_of write actor.start (primary_of actor.transaction)) commit
-    (further rows actor.start actor.transaction write commit is.times is.sound.0.transacts may.done may.drawn may.written may.allowed).now)
-    (unlock_step actor.start rows _ (actor ∷ others) (secondary_unlocks rows actor.start actor.transaction write commit is.times is.sound.0.transacts may.done may.drawn may.written may.allowed) is.sound) is
+    (further rows actor.start actor.transaction write commit is.times is.sound.0.transacts may.done may.drawn (its_write rows actor write commit is.sound.0 may) may.allowed).now)
+    (unlock_step actor.start rows _ (actor ∷ others) (secondary_unlocks rows actor.start actor.transaction write commit is.times is.sound.0.transacts may.done may.drawn (its_write rows actor write commit is.sound.0 may) may.allowed) is.sound) is
 
 -- ---- all moves
 
 pub move_is_consistent : MoveIsConsistent
 move_is_consistent number rows actor others (Plan writes) may is =
-    actor_kept number rows actor (with_transaction actor (new_transaction writes)) others (writes_step rows actor others writes may is.sound)
+    actor_kept number rows actor (with_transaction actor (new_transaction writes)) others (writes_step rows actor others writes may.0 may.1 is.sound)
     (record { below = record { start = is.older.0.below.start; commit = λ c e. absurd cc }; recovers = is.older.0.recovers })
     (record { start = is.own.0.start; commit = λ c e. absurd cc; locks = λ c e. absurd cc }) is
 move_is_consistent number rows actor others (Prewrite write) may is = prewrite_kept number rows actor others write may is

@@ -86,6 +86,7 @@ empty_step rows actor others commit none drawn not_yet sound = sound_after _ row
       own = λ is. record {
         reads = is.reads;
         transacts = record {
+          distinct = is.transacts.distinct;
           within = is.transacts.within;
           undone = λ e. absurd cc;
           all = is.transacts.all;
@@ -217,7 +218,7 @@ begin_step rows start others none older sound = (own, each_map (IsOlder start) (
     own : IsSound rows fresh
     own = record {
       reads = λ answer held. absurd (let within = held.1 in omega arith);
-      transacts = record { within = omega arith; undone = λ e. inl none; all = λ commit e. absurd cc; later = λ commit e. absurd cc; won = λ e. absurd cc };
+      transacts = record { distinct = refl; within = omega arith; undone = λ e. inl none; all = λ commit e. absurd cc; later = λ commit e. absurd cc; won = λ e. absurd cc };
       recovers = tt;
     }
 
@@ -236,7 +237,7 @@ begin_step rows start others none older sound = (own, each_map (IsOlder start) (
     }
 
 pub writes_step : WritesStep
-writes_step rows actor others writes is sound = (own sound.0, each_map paired paired _ (λ other p q. (from_mover other p.0, to_mover other p.1)) others sound.1 sound.1, sound.2)
+writes_step rows actor others writes is distinct sound = (own sound.0, each_map paired paired _ (λ other p q. (from_mover other p.0, to_mover other p.1)) others sound.1 sound.1, sound.2)
   where
     mover : Actor
     mover = with_transaction actor (new_transaction writes)
@@ -254,7 +255,7 @@ writes_step rows actor others writes is sound = (own sound.0, each_map paired pa
     own : IsSound rows actor → IsSound rows mover
     own old = record {
       reads = old.reads;
-      transacts = record { within = omega arith; undone = λ e. inl (held (subst (λ transaction. Transacts actor.start transaction (traces actor.start rows)) is old.transacts)); all = λ commit e. absurd cc; later = λ commit e. absurd cc; won = λ e. absurd cc };
+      transacts = record { distinct = distinct; within = omega arith; undone = λ e. inl (held (subst (λ transaction. Transacts actor.start transaction (traces actor.start rows)) is old.transacts)); all = λ commit e. absurd cc; later = λ commit e. absurd cc; won = λ e. absurd cc };
       recovers = old.recovers;
     }
 

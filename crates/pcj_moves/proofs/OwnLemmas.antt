@@ -1,21 +1,21 @@
 -- What an act makes of the transaction of its start.
-use Rattle.std.proofs.Common.{◌≡◌, ◌⊎◌, inl, inr, ℕ, suc, zero, Bool, true, false, cond, is_some, List, [], ◌∷◌, take, ◌++◌, Option, Some, None, refl, ap, sym, subst, ◌∙◌, arith}
+use Rattle.std.proofs.Common.{◌≡◌, ◌⊎◌, inl, inr, ℕ, zero, suc, Bool, true, false, cond, is_some, List, [], ◌∷◌, ◌++◌, take, Option, Some, None, refl, ap, sym, subst, ◌∙◌, arith}
+use Rattle.std.proofs.Math.Seq.{take-suc}
+use Rattle.std.proofs.lemmas.List.Folds.{find-append}
+use Rattle.std.proofs.lemmas.Option.{get_or_from_slice_get, slice_get_within}
 use Rattle.std.specs.List.{find}
 use Rattle.std.specs.Option.{option_map, option_or}
-use Rattle.std.proofs.lemmas.List.Folds.{find-append}
-use Rattle.std.proofs.Math.Seq.{take-suc}
-use Rattle.pcj_table.specs.declared.lock.Lock.{Lock}
-use Rattle.pcj_table.specs.declared.write.Write.{Write}
-use Rattle.pcj_table.specs.declared.version.Version.{Version}
-use Rattle.pcj_table.specs.Table.{Key}
-use Rattle.pcj_mvcc.specs.Acts.{lock_of, version_of}
+use Rattle.pcj_term.proofs.ByteLemmas.{other_bytes, same_bytes_are, same_bytes_itself}
 use Rattle.pcj_term.specs.Order.{same_bytes}
-use Rattle.pcj_term.proofs.ByteLemmas.{same_bytes_are, same_bytes_itself, other_bytes}
-use Rattle.pcj_moves.specs.Traces.{Trace, Traces, place, no_trace, lock_trace, version_trace}
-use Rattle.pcj_moves.specs.Transactions.{Transaction, primary_of, first_key, write_at, lock_at, as_version, IsHeld, IsLost, IsWon, Transacts}
+use Rattle.pcj_table.specs.Table.{Key, found}
+use Rattle.pcj_table.specs.declared.lock.Lock.{Lock}
+use Rattle.pcj_table.specs.declared.version.Version.{Version}
+use Rattle.pcj_table.specs.declared.write.Write.{Write}
+use Rattle.pcj_mvcc.specs.Acts.{lock_of, version_of}
+use Rattle.pcj_moves.specs.Traces.{Trace, Traces, lock_trace, no_trace, place, version_trace}
+use Rattle.pcj_moves.specs.Transactions.{IsHeld, IsLost, IsNext, IsWon, Transaction, Transacts, as_version, first_key, lock_at, primary_of, with_next, write_at}
 use Rattle.pcj_moves.specs.Recoveries.{Knows}
-use Rattle.pcj_moves.specs.Transactions.{IsNext, with_next}
-use Rattle.pcj_moves.specs.ActorLaws.{PrewriteGoesOn, DrawGoesOn, PrimaryGoesOn, SecondaryGoesOn, RollBackGoesOn, RollForwardGoesOn, LockIsOfWrite, RecoversUnlock, RecoversPrewrite, HiddenUnlock, HiddenUndrawn, HiddenDrawn, HiddenCommitted, OfWriteNext}
+use Rattle.pcj_moves.specs.ActorLaws.{DrawGoesOn, HiddenCommitted, HiddenDrawn, HiddenUndrawn, HiddenUnlock, LockIsOfWrite, OfWriteNext, PrewriteGoesOn, PrimaryGoesOn, RecoversPrewrite, RecoversUnlock, RollBackGoesOn, RollForwardGoesOn, SecondaryGoesOn}
 
 -- ---- traces with another one at a key
 
@@ -51,7 +51,7 @@ pub lock_more : (start : ℕ) (transaction : Transaction) (write : Write) → Is
     lock_at start (with_next transaction) key ≡ cond (same_bytes key write.key) (Some (lock_of write start (primary_of transaction))) (lock_at start transaction key)
 lock_more start transaction write next key =
     ap (option_map (λ w. lock_of w start (primary_of transaction)))
-    (ap (find (λ w. same_bytes key w.key)) (take-suc transaction.writes transaction.prewritten write next.within ∙ ap (λ w. take transaction.prewritten transaction.writes ++ (w ∷ [])) next.is)
+    (ap (find (λ w. same_bytes key w.key)) (take-suc transaction.writes transaction.prewritten write (slice_get_within transaction.writes transaction.prewritten write next.is) ∙ ap (λ w. take transaction.prewritten transaction.writes ++ (w ∷ [])) (get_or_from_slice_get transaction.writes transaction.prewritten write write next.is))
     ∙ find-append (λ w. same_bytes key w.key) (take transaction.prewritten transaction.writes) (write ∷ []))
     ∙ by_key key write.key
     (λ same. rw same (ap (λ found. option_map (λ w. lock_of w start (primary_of transaction)) (option_or found (cond (same_bytes write.key write.key) (Some write) None))) next.new ∙ rw (same_bytes_itself write.key) refl))
@@ -95,7 +95,8 @@ lock_stays start transaction write next key apart = lock_more start transaction 
 
 pub prewrite_goes_on : PrewriteGoesOn
 prewrite_goes_on start transaction at write transacts next = record {
-  within = next.within;
+  distinct = transacts.distinct;
+  within = (let lt = slice_get_within transaction.writes transaction.prewritten write next.is in omega arith);
   undone = λ e. undone (transacts.undone next.committed);
   all = λ commit e. absurd (let none = next.commit in cc);
   later = transacts.later;
@@ -119,6 +120,7 @@ prewrite_goes_on start transaction at write transacts next = record {
 
 pub draw_goes_on : DrawGoesOn
 draw_goes_on start transaction at commit transacts all open_yet before = record {
+  distinct = transacts.distinct;
   within = transacts.within;
   undone = transacts.undone;
   all = λ c e. all;
@@ -128,6 +130,7 @@ draw_goes_on start transaction at commit transacts all open_yet before = record 
 
 pub primary_goes_on : PrimaryGoesOn
 primary_goes_on start transaction at lock commit transacts open_yet drawn locked = record {
+  distinct = transacts.distinct;
   within = transacts.within;
   undone = λ e. absurd cc;
   all = transacts.all;
@@ -150,6 +153,7 @@ primary_goes_on start transaction at lock commit transacts open_yet drawn locked
 
 pub secondary_goes_on : SecondaryGoesOn
 secondary_goes_on start transaction at key lock commit transacts done drawn locked = record {
+  distinct = transacts.distinct;
   within = transacts.within;
   undone = λ e. absurd cc;
   all = transacts.all;
@@ -179,6 +183,7 @@ none_as_version commit (Some lock) e = absurd cc
 
 pub roll_back_goes_on : RollBackGoesOn
 roll_back_goes_on start transaction at key lock transacts locked which = record {
+  distinct = transacts.distinct;
   within = transacts.within;
   undone = λ e. inr (undone (transacts.undone e) which);
   all = transacts.all;

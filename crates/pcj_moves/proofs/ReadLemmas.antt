@@ -22,7 +22,7 @@ use Rattle.pcj_moves.proofs.OtherLemmas.{hidden_read, hidden_stays, reads_pass_c
 use Rattle.pcj_moves.proofs.OwnLemmas.{hidden_committed, hidden_drawn, hidden_undrawn}
 use Rattle.pcj_moves.proofs.ActorLemmas.{each_contains, each_holds, each_map, each_sound, either_actor, either_held}
 use Rattle.pcj_moves.proofs.StepLemmas.{at_primary, recovery_drops_primary, recovery_rolls_back, recovery_rolls_forward, secondary_unlocks, unlock_hides}
-use Rattle.pcj_moves.proofs.ConsistencyLemmas.{its_recovery}
+use Rattle.pcj_moves.proofs.ConsistencyLemmas.{its_first, its_recovery, its_write}
 use Rattle.pcj_moves.proofs.MoveLemmas.{comes_first, step_is_consistent}
 use Rattle.pcj_moves.proofs.StandingLemmas.{one_move_changes}
 
@@ -107,14 +107,14 @@ move_leaves_read number rows actor others (Plan writes) time answers may is lowe
 move_leaves_read number rows actor others (Prewrite write) time answers may is lower kept = record {
   reads = reads_stay rows (rows_after (Prewrite write) actor rows) time answers (one_move_changes number rows actor others (Prewrite write) may is) kept.reads;
   hidden = (
-    hidden_undrawn actor.start (with_next actor.transaction) (traces actor.start (rows_after (Prewrite write) actor rows)) time answers may.next.commit,
+    hidden_undrawn actor.start (with_next actor.transaction) (traces actor.start (rows_after (Prewrite write) actor rows)) time answers may.undrawn,
     others_hidden actor.start write.key _ rows (rows_after (Prewrite write) actor rows) (prewrite_changes rows write actor.start (primary_of actor.transaction) is.times may.allowed) actor others refl is.sound.1 time answers kept.hidden.1,
   );
 }
 move_leaves_read number rows actor others (Draw commit) time answers may is lower kept =
     record { reads = kept.reads; hidden = (hidden_drawn actor.start actor.transaction (traces actor.start rows) time answers commit (let le = may.granted in omega arith), kept.hidden.1) }
 move_leaves_read number rows actor others (CommitPrimary write commit) time answers may is lower kept =
-    let facts = at_primary rows actor.start actor.transaction write may.rest commit is.times is.sound.0.transacts may.first may.drawn may.undone may.allowed in record {
+    let facts = at_primary rows actor.start actor.transaction write (its_first rows actor write commit may).0 commit is.times is.sound.0.transacts (its_first rows actor write commit may).1 may.drawn may.undone may.allowed in record {
       reads = reads_pass_commit actor.start commit actor.transaction rows (rows_after (CommitPrimary write commit) actor rows) time answers is.sound.0.transacts facts.ripe kept.hidden.0 facts.at_once kept.reads;
       hidden = (
         hidden_committed actor.start (as_committed actor.transaction) (traces actor.start (rows_after (CommitPrimary write commit) actor rows)) time answers refl,
@@ -122,7 +122,7 @@ move_leaves_read number rows actor others (CommitPrimary write commit) time answ
       );
     }
 move_leaves_read number rows actor others (CommitSecondary write commit) time answers may is lower kept =
-    unlock_leaves_read actor.start rows _ (secondary_unlocks rows actor.start actor.transaction write commit is.times is.sound.0.transacts may.done may.drawn may.written may.allowed) (actor ∷ others) time answers kept
+    unlock_leaves_read actor.start rows _ (secondary_unlocks rows actor.start actor.transaction write commit is.times is.sound.0.transacts may.done may.drawn (its_write rows actor write commit is.sound.0 may) may.allowed) (actor ∷ others) time answers kept
 move_leaves_read number rows actor others (CommitNothing commit) time answers may is lower kept =
     record { reads = kept.reads; hidden = (hidden_committed actor.start (as_committed actor.transaction) (traces actor.start rows) time answers refl, kept.hidden.1) }
 move_leaves_read number rows actor others (Read answer) time answers may is lower kept = record { reads = kept.reads; hidden = (kept.hidden.0, kept.hidden.1) }

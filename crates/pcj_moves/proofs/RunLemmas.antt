@@ -38,7 +38,7 @@ one_of_start rows (first ∷ rest) actor sound there = by (either_actor first ac
 -- a move leaves them
 writes_stay : (move : Move) (number : ℕ) (rows : Rows) (actor : Actor) (start : ℕ) (write : Write) (rest : List Write) → IsAllowed move number rows actor →
     HasWrites start (write ∷ rest) actor → HasWrites start (write ∷ rest) (actor_after move rows actor)
-writes_stay (Plan writes) number rows actor start write rest may has same = absurd (let clash : [] ≡ write ∷ rest = ap (λ (t : Transaction). t.writes) (sym may) ∙ has same in cc)
+writes_stay (Plan writes) number rows actor start write rest may has same = absurd (let clash : [] ≡ write ∷ rest = ap (λ (t : Transaction). t.writes) (sym may.0) ∙ has same in cc)
 writes_stay (Prewrite w) number rows actor start write rest may has same = has same
 writes_stay (Draw commit) number rows actor start write rest may has same = has same
 writes_stay (CommitPrimary w commit) number rows actor start write rest may has same = has same

@@ -21,10 +21,11 @@ use Rattle.pcj_moves.specs.Transactions.{IsHeld, IsLost, IsRipe, IsWon, Transact
 use Rattle.pcj_moves.specs.Moves.{CommitNothing, CommitPrimary, CommitSecondary, Draw, DropPrimary, EndRecovery, Learn, Meet, Plan, Prewrite, Read, RollBack, RollForward, WritePlain}
 use Rattle.pcj_moves.specs.StandingLaws.{AllAreSeen, AllStand, NoneStands, OneMoveChanges, StandsWhole, version_read, version_written}
 use Rattle.pcj_moves.proofs.TraceLemmas.{row_stays}
+use Rattle.pcj_moves.proofs.WriteLemmas.{undrawn_is_undone}
 use Rattle.pcj_moves.proofs.OtherLemmas.{lock_is, not_locked, ripe_is_held, unwritten_unlocked}
 use Rattle.pcj_moves.proofs.OwnLemmas.{primary_first}
 use Rattle.pcj_moves.proofs.StepLemmas.{at_primary, names_one, recovery_drops_primary, recovery_rolls_back, recovery_rolls_forward, secondary_unlocks, uncommitted}
-use Rattle.pcj_moves.proofs.ConsistencyLemmas.{its_recovery}
+use Rattle.pcj_moves.proofs.ConsistencyLemmas.{its_first, its_recovery, its_write}
 
 -- ---- what is read of a start in a row
 
@@ -178,13 +179,13 @@ same_rows rows key = refl
 pub one_move_changes : OneMoveChanges
 one_move_changes number rows actor others (Plan writes) may is = same_rows rows
 one_move_changes number rows actor others (Prewrite write) may is =
-    prewrite_keeps rows write actor.start (primary_of actor.transaction) may.allowed (uncommitted rows actor.start actor.transaction is.sound.0.transacts may.next.committed)
+    prewrite_keeps rows write actor.start (primary_of actor.transaction) may.allowed (uncommitted rows actor.start actor.transaction is.sound.0.transacts (undrawn_is_undone actor.start actor.transaction (traces actor.start rows) is.sound.0.transacts may.undrawn))
 one_move_changes number rows actor others (Draw commit) may is = same_rows rows
 one_move_changes number rows actor others (CommitPrimary write commit) may is =
-    let facts = at_primary rows actor.start actor.transaction write may.rest commit is.times is.sound.0.transacts may.first may.drawn may.undone may.allowed in
+    let facts = at_primary rows actor.start actor.transaction write (its_first rows actor write commit may).0 commit is.times is.sound.0.transacts (its_first rows actor write commit may).1 may.drawn may.undone may.allowed in
     stands_whole rows actor.start actor.transaction commit _ is.sound.0.transacts facts.ripe facts.at_once
 one_move_changes number rows actor others (CommitSecondary write commit) may is =
-    (secondary_unlocks rows actor.start actor.transaction write commit is.times is.sound.0.transacts may.done may.drawn may.written may.allowed).same
+    (secondary_unlocks rows actor.start actor.transaction write commit is.times is.sound.0.transacts may.done may.drawn (its_write rows actor write commit is.sound.0 may) may.allowed).same
 one_move_changes number rows actor others (CommitNothing commit) may is = same_rows rows
 one_move_changes number rows actor others (Read answer) may is = same_rows rows
 one_move_changes number rows actor others (Meet key lock) may is = same_rows rows

@@ -1,18 +1,19 @@
 -- What an actor may do next beside others, and runs of such moves.
-use Rattle.std.specs.Prelude.{◌≡◌, ◌≢◌, ◌≤◌, ◌<◌, ℕ, suc, Bool, true, false, not, ◌==◌, ◌&&◌, ◌||◌, nat_lt, List, [], ◌∷◌, ◌++◌, length, Some, None}
-use Rattle.pcj_table.specs.declared.lock.Lock.{Lock}
-use Rattle.pcj_table.specs.declared.plain.Plain.{Plain}
-use Rattle.pcj_table.specs.declared.write.Write.{Write}
-use Rattle.pcj_table.specs.declared.update.Update.TheVariants.{SetPlain}
+use Rattle.std.specs.Prelude.{◌≡◌, ◌≢◌, ◌<◌, ◌≤◌, ℕ, suc, Bool, true, false, not, ◌==◌, nat_lt, ◌&&◌, ◌||◌, List, [], ◌∷◌, ◌++◌, length, Some, None}
+use Rattle.std.specs.List.{slice_get}
 use Rattle.pcj_table.specs.Row.{updated}
 use Rattle.pcj_table.specs.Table.{Key}
-use Rattle.pcj_mvcc.specs.Acts.{prewrite_act, commit_act, roll_back_act, roll_forward_act}
-use Rattle.pcj_mvcc.specs.Reading.{Rows, put, acted, allows, OnePrimary}
+use Rattle.pcj_table.specs.declared.lock.Lock.{Lock}
+use Rattle.pcj_table.specs.declared.plain.Plain.{Plain}
+use Rattle.pcj_table.specs.declared.update.Update.TheVariants.{SetPlain}
+use Rattle.pcj_table.specs.declared.write.Write.{Write}
+use Rattle.pcj_mvcc.specs.Acts.{commit_act, prewrite_act, roll_back_act, roll_forward_act}
+use Rattle.pcj_mvcc.specs.Reading.{OnePrimary, Rows, acted, allows, put}
 use Rattle.pcj_mvcc.specs.Times.{AllVersions, TimesInOrder}
-use Rattle.pcj_moves.specs.Transactions.{primary_of, write_at, new_transaction, with_next, with_commit, as_committed, IsNext}
-use Rattle.pcj_moves.specs.Recoveries.{Recovery, new_recovery, with_known, told}
+use Rattle.pcj_moves.specs.Transactions.{are_distinct, as_committed, new_transaction, primary_of, with_commit, with_next}
+use Rattle.pcj_moves.specs.Recoveries.{Recovery, new_recovery, told, with_known}
 use Rattle.pcj_moves.specs.Reads.{Answer, IsRead}
-use Rattle.pcj_moves.specs.Actors.{Actor, Each, AreSound, IsOlder, new_actor, with_transaction, with_answer, with_recovery}
+use Rattle.pcj_moves.specs.Actors.{Actor, AreSound, Each, IsOlder, new_actor, with_answer, with_recovery, with_transaction}
 
 -- ---- the moves of an actor
 
@@ -77,24 +78,24 @@ number_after _ number = number
 -- ---- the rules
 
 pub record MayPrewrite (rows : Rows) (actor : Actor) (write : Write) : Type 0 where
-  pub next : IsNext actor.transaction write
+  pub next : slice_get actor.transaction.writes actor.transaction.prewritten ≡ Some write
+  pub undrawn : actor.transaction.commit ≡ None
   pub allowed : allows (prewrite_act write actor.start (primary_of actor.transaction)) (rows write.key) ≡ true
 
 pub record MayDraw (number : ℕ) (actor : Actor) (commit : ℕ) : Type 0 where
   pub all : actor.transaction.prewritten ≡ length actor.transaction.writes
   pub undrawn : actor.transaction.commit ≡ None
-  pub undone : actor.transaction.committed ≡ false
   pub granted : number ≤ commit
 
 pub record MayCommitPrimary (rows : Rows) (actor : Actor) (write : Write) (commit : ℕ) : Type 0 where
-  pub rest : List Write
-  pub first : actor.transaction.writes ≡ write ∷ rest
+  pub first : slice_get actor.transaction.writes 0 ≡ Some write
   pub drawn : actor.transaction.commit ≡ Some commit
   pub undone : actor.transaction.committed ≡ false
   pub allowed : allows (commit_act write actor.start commit) (rows write.key) ≡ true
 
 pub record MayCommitSecondary (rows : Rows) (actor : Actor) (write : Write) (commit : ℕ) : Type 0 where
-  pub written : write_at actor.transaction.writes write.key ≡ Some write
+  pub place : ℕ
+  pub written : slice_get actor.transaction.writes place ≡ Some write
   pub drawn : actor.transaction.commit ≡ Some commit
   pub done : actor.transaction.committed ≡ true
   pub allowed : allows (commit_act write actor.start commit) (rows write.key) ≡ true
@@ -112,7 +113,7 @@ pub record MayMeet (rows : Rows) (actor : Actor) (key : Key) (lock : Lock) : Typ
 -- Whether an actor may make a move. It drops a primary's lock without any condition but that it stands, and rolls
 -- another row back or forward by what it knows of the primary.
 abbrev pub IsAllowed : Move → ℕ → Rows → Actor → Type 0
-IsAllowed (Plan writes) number rows actor = actor.transaction ≡ new_transaction []
+IsAllowed (Plan writes) number rows actor = (actor.transaction ≡ new_transaction []) × (are_distinct writes ≡ true)
 IsAllowed (Prewrite write) number rows actor = MayPrewrite rows actor write
 IsAllowed (Draw commit) number rows actor = MayDraw number actor commit
 IsAllowed (CommitPrimary write commit) number rows actor = MayCommitPrimary rows actor write commit

@@ -1,17 +1,16 @@
 -- A step of one actor, with any others.
-use Rattle.std.specs.Prelude.{◌≡◌, ◌≢◌, ◌⊎◌, ℕ, true, false, List, [], ◌∷◌, Option, IfSome, length, Some, None}
+use Rattle.std.specs.Prelude.{◌≡◌, ◌≢◌, ◌⊎◌, ℕ, true, false, List, [], ◌∷◌, length, Option, Some, None, IfSome}
+use Rattle.pcj_table.specs.Table.{Key}
 use Rattle.pcj_table.specs.declared.lock.Lock.{Lock}
 use Rattle.pcj_table.specs.declared.write.Write.{Write}
-use Rattle.pcj_table.specs.Table.{Key}
-use Rattle.pcj_mvcc.specs.Acts.{prewrite_act, roll_back_act, roll_forward_act, commit_act}
-use Rattle.pcj_mvcc.specs.Reading.{Rows, acted, allows, committed, OnlyLock, OnePrimary}
+use Rattle.pcj_mvcc.specs.Acts.{commit_act, prewrite_act, roll_back_act, roll_forward_act}
+use Rattle.pcj_mvcc.specs.Reading.{OnePrimary, OnlyLock, Rows, SameReading, acted, allows, committed}
 use Rattle.pcj_mvcc.specs.Times.{TimesInOrder}
-use Rattle.pcj_mvcc.specs.Reading.{SameReading}
-use Rattle.pcj_moves.specs.Traces.{Trace, traces, no_trace, lock_trace, place}
-use Rattle.pcj_moves.specs.Transactions.{Transaction, primary_of, write_at, Transacts, new_transaction, with_next, with_commit, as_committed, IsNext}
-use Rattle.pcj_moves.specs.Recoveries.{Recovery, Recovers, new_recovery, with_known, told}
+use Rattle.pcj_moves.specs.Traces.{Trace, lock_trace, no_trace, place, traces}
+use Rattle.pcj_moves.specs.Transactions.{IsNext, Transaction, Transacts, are_distinct, as_committed, new_transaction, primary_of, with_commit, with_next, write_at}
+use Rattle.pcj_moves.specs.Recoveries.{Recovers, Recovery, new_recovery, told, with_known}
 use Rattle.pcj_moves.specs.Reads.{Answer, IsRead}
-use Rattle.pcj_moves.specs.Actors.{Actor, Each, AreSound, new_actor, with_transaction, with_answer, with_recovery, IsBelow, IsOlder}
+use Rattle.pcj_moves.specs.Actors.{Actor, AreSound, Each, IsBelow, IsOlder, new_actor, with_answer, with_recovery, with_transaction}
 use Rattle.pcj_moves.specs.TraceLaws.{ChangesTrace, Stays}
 
 -- ---- a step with any other actors
@@ -120,5 +119,5 @@ BeginStep = (rows : Rows) (start : ℕ) (others : List Actor) → ((key : Key) �
     AreSound rows others → AreSound rows (new_actor start ∷ others)
 
 abbrev pub WritesStep : Type 0
-WritesStep = (rows : Rows) (actor : Actor) (others : List Actor) (writes : List Write) → actor.transaction ≡ new_transaction [] →
+WritesStep = (rows : Rows) (actor : Actor) (others : List Actor) (writes : List Write) → actor.transaction ≡ new_transaction [] → are_distinct writes ≡ true →
     AreSound rows (actor ∷ others) → AreSound rows (with_transaction actor (new_transaction writes) ∷ others)

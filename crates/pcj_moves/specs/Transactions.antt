@@ -1,14 +1,14 @@
 -- A transaction, and what rows have of it (Percolator, OSDI 2010, section 2.2).
-use Rattle.std.specs.Prelude.{◌≡◌, ◌⊎◌, ◌≤◌, ◌<◌, ℕ, suc, Bool, true, false, not, ◌&&◌, List, [], ◌∷◌, length, take, get_or, Option, Some, None, is_some}
-use Rattle.std.specs.List.{find}
+use Rattle.std.specs.Prelude.{◌≡◌, ◌⊎◌, ◌<◌, ◌≤◌, ℕ, suc, Bool, true, false, not, is_some, ◌&&◌, List, [], ◌∷◌, length, take, Option, Some, None}
+use Rattle.std.specs.List.{find, slice_get}
 use Rattle.std.specs.Option.{option_map}
 use Rattle.pcj_term.specs.Order.{same_bytes}
+use Rattle.pcj_table.specs.Table.{Key}
 use Rattle.pcj_table.specs.declared.lock.Lock.{Lock}
 use Rattle.pcj_table.specs.declared.version.Version.{Version}
 use Rattle.pcj_table.specs.declared.write.Write.{Write}
-use Rattle.pcj_table.specs.Table.{Key}
 use Rattle.pcj_mvcc.specs.Acts.{lock_of, version_of}
-use Rattle.pcj_moves.specs.Traces.{Traces, no_trace, lock_trace, version_trace}
+use Rattle.pcj_moves.specs.Traces.{Traces, lock_trace, no_trace, version_trace}
 
 -- What is written, how many of the writes are prewritten, the commit once it is drawn, and whether the primary's row
 -- is committed. The first write's row is the primary.
@@ -62,9 +62,10 @@ pub record IsWon (primary : Key) (locks : Key → Option Lock) (commit : ℕ) (a
   pub primary_there : at primary ≡ version_trace (as_version commit (locks primary))
   pub each : (key : Key) → (at key ≡ lock_trace (locks key)) ⊎ (at key ≡ version_trace (as_version commit (locks key)))
 
--- Until it is committed its locks stand, or its primary's was taken away. A commit is drawn where all is prewritten,
--- and is above the start. Once it is committed its primary has its version.
+-- Its rows are distinct. Until it is committed its locks stand, or its primary's was taken away. A commit is drawn where
+-- all is prewritten, and is above the start. Once it is committed its primary has its version.
 pub record Transacts (start : ℕ) (transaction : Transaction) (at : Traces) : Type 0 where
+  pub distinct : are_distinct transaction.writes ≡ true
   pub within : transaction.prewritten ≤ length transaction.writes
   pub undone : transaction.committed ≡ false → IsHeld (lock_at start transaction) at ⊎ IsLost (primary_of transaction) (lock_at start transaction) at
   pub all : (commit : ℕ) → transaction.commit ≡ Some commit → transaction.prewritten ≡ length transaction.writes
@@ -95,8 +96,7 @@ as_committed transaction = record { writes = transaction.writes; prewritten = tr
 
 -- the next write, of a row that was not yet prewritten
 pub record IsNext (transaction : Transaction) (write : Write) : Type 0 where
-  pub within : transaction.prewritten < length transaction.writes
-  pub is : get_or transaction.writes transaction.prewritten write ≡ write
+  pub is : slice_get transaction.writes transaction.prewritten ≡ Some write
   pub new : write_at (take transaction.prewritten transaction.writes) write.key ≡ None
   pub commit : transaction.commit ≡ None
   pub committed : transaction.committed ≡ false

@@ -1,4 +1,4 @@
-ghost use Rattle.pcj_moves.specs.WriteLaws.{DistinctAreNew, DistinctAreThere, DistinctAreSecondary};
+ghost use Rattle.pcj_moves.specs.WriteLaws.{DistinctAreNew, DistinctAreThere, DistinctAreSecondary, NextIsNew, UndrawnIsUndone};
 
 /// Where the rows that a transaction writes are distinct, each row to be prewritten is new, and each further row that
 /// it commits isn't the primary's.
@@ -6,4 +6,6 @@ pub fn distinct_rows_are_new()
     ensures new { DistinctAreNew }
     ensures there { DistinctAreThere }
     ensures secondary { DistinctAreSecondary }
+    ensures next { NextIsNew }
+    ensures undone { UndrawnIsUndone }
 {}
