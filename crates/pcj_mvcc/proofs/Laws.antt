@@ -9,11 +9,16 @@ use Rattle.pcj_table.specs.declared.version.Version.{Version}
 use Rattle.pcj_table.specs.declared.row.Row.{Row}
 use Rattle.pcj_table.specs.declared.write.Write.{Write}
 use Rattle.pcj_table.specs.declared.plain.Plain.{Plain}
+use Rattle.pcj_table.specs.declared.cond.Cond.{Cond}
+use Rattle.pcj_table.specs.declared.update.Update.{Update}
 use Rattle.pcj_table.specs.declared.update.Update.TheVariants.{SetPlain}
+use Rattle.pcj_table.specs.declared.mutated.Mutated.{Mutated}
+use Rattle.pcj_table.specs.declared.mutated.Mutated.TheVariants.{Applied, Rejected}
 use Rattle.pcj_table.specs.Row.{newest, versions_up_to, add_version, updated, updated_all, are_below, is_locked_at, is_locked_up_to, is_put, has_plain_value}
-use Rattle.pcj_table.specs.Table.{Key, row_at}
+use Rattle.pcj_table.specs.Table.{Key, Table, row_at, Mutates}
+use Rattle.pcj_mvcc.specs.declared.act.Act.{Act}
 use Rattle.pcj_mvcc.specs.Acts.{lock_of, version_of, prewrite_act, replace_lock_act, roll_back_act}
-use Rattle.pcj_mvcc.specs.Reading.{Rows, put, lock_up_to, commit_of, committed, with_lock, reading, versions_read, put_of, seen, SameReading, Put, OnePrimary, OnlyLock, Commits}
+use Rattle.pcj_mvcc.specs.Reading.{Rows, put, lock_up_to, commit_of, committed, with_lock, reading, versions_read, put_of, seen, SameReading, Put, OnePrimary, OnlyLock, Commits, CarriesOut}
 use Rattle.pcj_mvcc.specs.Times.{ascends, AllVersions, starts_first, TimesInOrder}
 use Rattle.pcj_mvcc.specs.Laws.{ChangesOneRow, ActsOnOneRow, PrewriteKeeps, RollBackKeeps, RollForwardKeeps, CommitKeeps, PlainKeeps, PrimaryCommits, ReadingsDecide, CommitsStand, SameStanding, StandingIsSeen, ReadsAreSeen, PassedRowsShowNothing, PrewriteInOrder, ReplaceInOrder, RollBackInOrder, PlainInOrder, PrewriteNamesOne, ReplaceNamesOne, RollBackNamesOne, PlainNamesOne}
 use Rattle.pcj_mvcc.proofs.Versions.{commit_kept, commit_added, later_added, seen_added, newest_added, version_of_start, below_more, ascends_added, all_added, seen_all}
@@ -26,6 +31,14 @@ changes_one_row table key row = rows_alike _ _ (with_row_puts table key row)
 
 pub acts_on_one_row : ActsOnOneRow
 acts_on_one_row old new key act done = (done.0, ap row_at done.1 ∙ changes_one_row old key (updated_all (row_at old key) act.updates))
+
+pub carries_out : (old new : Table) (key : Key) (act : Act) (conds : List Cond) (updates : List Update) (done : Mutated) → conds ≡ act.conds → updates ≡ act.updates →
+    Mutates old key conds updates done new → CarriesOut old key act done new
+carries_out old new key act conds updates done is are mutates = by done (subst (λ (cs : List Cond). Mutates old key cs act.updates done new) is (subst (λ (us : List Update). Mutates old key conds us done new) are mutates))
+  where
+    by : (told : Mutated) → Mutates old key act.conds act.updates told new → CarriesOut old key act told new
+    by Applied made = acts_on_one_row old new key act made
+    by (Rejected row) left = left
 
 -- ---- locks of a row
 

@@ -1,6 +1,6 @@
 -- What stands in a table, and what is seen there at a time (Percolator, OSDI 2010, section 2.2): a transaction is
 -- committed once its primary's row has its version, and from then on each of its locks counts as a version too.
-use Rattle.std.specs.Prelude.{◌≡◌, ℕ, Bool, false, cond, ◌==◌, nat_le, List, Option, Some, None, if◌then◌else◌}
+use Rattle.std.specs.Prelude.{◌≡◌, ℕ, Bool, true, false, cond, ◌==◌, nat_le, List, Option, Some, None, if◌then◌else◌}
 use Rattle.std.specs.List.{find}
 use Rattle.std.specs.Option.{option_map}
 use Rattle.pcj_term.specs.Order.{same_bytes}
@@ -8,7 +8,9 @@ use Rattle.pcj_table.specs.declared.lock.Lock.{Lock}
 use Rattle.pcj_table.specs.declared.version.Version.{Version}
 use Rattle.pcj_table.specs.declared.row.Row.{Row}
 use Rattle.pcj_table.specs.Row.{newest, versions_up_to, add_version, updated_all, conds_hold, is_locked_at}
-use Rattle.pcj_table.specs.Table.{Key}
+use Rattle.pcj_table.specs.declared.mutated.Mutated.{Mutated}
+use Rattle.pcj_table.specs.declared.mutated.Mutated.TheVariants.{Applied, Rejected}
+use Rattle.pcj_table.specs.Table.{Key, Table, row_at}
 use Rattle.pcj_mvcc.specs.declared.act.Act.{Act}
 use Rattle.pcj_mvcc.specs.Acts.{version_of}
 
@@ -27,6 +29,12 @@ acted rows key act = put rows key (updated_all (rows key) act.updates)
 -- whether an act's conditions hold of a row
 abbrev pub allows : Act → Row → Bool
 allows act row = conds_hold row act.conds
+
+-- An act carried out on a key's row: where the row allows it, the act's updates are made there, and else nothing is
+-- changed and the row is handed back.
+abbrev pub CarriesOut : Table → Key → Act → Mutated → Table → Type 0
+CarriesOut old key act Applied new = (allows act (row_at old key) ≡ true) × (row_at new ≡ acted (row_at old) key act)
+CarriesOut old key act (Rejected row) new = (allows act (row_at old key) ≡ false) × (row ≡ row_at old key) × (new ≡ old)
 
 -- ---- one row
 

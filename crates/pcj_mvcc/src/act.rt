@@ -1,7 +1,9 @@
-ghost use Rattle.std.specs.Prelude.{◌≡◌, IfOk};
+ghost use Rattle.std.specs.Prelude.{◌≡◌, IfOk, OnErr};
+ghost use Rattle.pcj_table.specs.Calls.{HasTableCause, counted};
 ghost use Rattle.pcj_mvcc.specs.Acts.{prewrite_act, commit_act, roll_forward_act, roll_back_act, replace_lock_act};
+ghost use Rattle.pcj_mvcc.specs.Reading.{CarriesOut};
 
-use pcj_table::{Cond, Lock, Update, Version, Write};
+use pcj_table::{Cond, Lock, Mutated, RowTable, TableError, Update, Version, Write};
 use pcj_term::{Bytes, Items, Memory, TryClone};
 use std::alloc::Global;
 
@@ -12,6 +14,18 @@ pub struct Act {
     pub conds: Items<Cond>,
     /// What is then done to it, in order.
     pub updates: Items<Update>,
+}
+
+impl Act {
+    /// Carries the act out on the key's row, by one call of the table.
+    pub fn carry_out<T: RowTable>(&self, table: &mut T, key: &[u8]) -> Result<Mutated, TableError>
+        ensures done { IfOk result (λ done. CarriesOut (T.rows table.old) key.now self.now done (T.rows table.new)) }
+        ensures err { OnErr result (T.rows table.new ≡ T.rows table.old) }
+        ensures cause { HasTableCause (T.failures table.old) (T.failures table.new) result }
+        ensures calls { T.made table.new ≡ counted (T.made table.old) }
+    {
+        table.mutate(key, self.conds.as_slice(), self.updates.as_slice())
+    }
 }
 
 impl TryClone for Act {
