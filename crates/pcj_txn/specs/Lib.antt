@@ -1,0 +1,4 @@
+pub mod Progress
+pub mod Steps
+pub mod Errors
+pub mod Refusals
