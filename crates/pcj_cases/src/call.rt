@@ -1,6 +1,6 @@
 use crate::answer::Answer;
 use crate::unanswered::Unanswered;
-use crate::{act, bytes, document, items, key, name, range, row, term, text, transcript};
+use crate::{act, bytes, document, items, key, name, range, row, term, text, token, transcript};
 use pcj_term::Bytes;
 use std::alloc::Global;
 
@@ -83,6 +83,7 @@ fn making(
         "commit_row" => act::commit_case(alloc, out, arguments),
         "integer_of" | "print_term" => term::term_case(alloc, out, call, arguments),
         "join_parts" => key::join_case(alloc, out, arguments),
+        "next_token" => token::next_case(alloc, out, arguments),
         "nt_number" => document::number_case(alloc, out, arguments),
         "prefix_end" => key::prefix_case(alloc, out, arguments),
         "prewrite" => act::prewrite_case(alloc, out, arguments),

@@ -23,6 +23,7 @@ mod range;
 mod row;
 mod term;
 mod text;
+mod token;
 mod transcript;
 mod unanswered;
 

@@ -1,0 +1,4 @@
+pub mod Characters
+pub mod Rules
+pub mod Reading
+pub mod Token
