@@ -18,7 +18,7 @@ use Rattle.pcj_table.specs.Row.{newest, versions_up_to, add_version, updated, up
 use Rattle.pcj_table.specs.Table.{Key, Table, row_at, Mutates}
 use Rattle.pcj_mvcc.specs.declared.act.Act.{Act}
 use Rattle.pcj_mvcc.specs.Acts.{lock_of, version_of, prewrite_act, replace_lock_act, roll_back_act}
-use Rattle.pcj_mvcc.specs.Reading.{Rows, put, lock_up_to, commit_of, committed, with_lock, reading, versions_read, put_of, seen, SameReading, Put, OnePrimary, OnlyLock, Commits, CarriesOut}
+use Rattle.pcj_mvcc.specs.Reading.{Rows, put, acted, lock_up_to, commit_of, committed, with_lock, reading, versions_read, put_of, seen, SameReading, Put, OnePrimary, OnlyLock, Commits, CarriesOut}
 use Rattle.pcj_mvcc.specs.Times.{ascends, AllVersions, starts_first, TimesInOrder}
 use Rattle.pcj_mvcc.specs.Laws.{ChangesOneRow, ActsOnOneRow, PrewriteKeeps, RollBackKeeps, RollForwardKeeps, CommitKeeps, PlainKeeps, PrimaryCommits, ReadingsDecide, CommitsStand, SameStanding, StandingIsSeen, ReadsAreSeen, PassedRowsShowNothing, PrewriteInOrder, ReplaceInOrder, RollBackInOrder, PlainInOrder, PrewriteNamesOne, ReplaceNamesOne, RollBackNamesOne, PlainNamesOne}
 use Rattle.pcj_mvcc.proofs.Versions.{commit_kept, commit_added, later_added, seen_added, newest_added, version_of_start, below_more, ascends_added, all_added, seen_all}
@@ -39,6 +39,17 @@ carries_out old new key act conds updates done is are mutates = by done (subst (
     by : (told : Mutated) → Mutates old key act.conds act.updates told new → CarriesOut old key act told new
     by Applied made = acts_on_one_row old new key act made
     by (Rejected row) left = left
+
+-- the updates of an act leave the plain value
+abbrev pub KeepsPlain : Act → Type 0
+KeepsPlain act = (row : Row) → (updated_all row act.updates).plain ≡ row.plain
+
+acted_plain : (rows : Rows) (key : Key) (act : Act) → KeepsPlain act → (other : Key) → (acted rows key act other).plain ≡ (rows other).plain
+acted_plain rows key act keeps = put_each (λ at row. row.plain ≡ (rows at).plain) rows key (updated_all (rows key) act.updates) (keeps (rows key)) (λ other differs. refl)
+
+pub carried_plain : (old new : Table) (key : Key) (act : Act) (done : Mutated) → KeepsPlain act → CarriesOut old key act done new → (other : Key) → (row_at new other).plain ≡ (row_at old other).plain
+carried_plain old new key act Applied keeps made other = ap (λ (rows : Rows). (rows other).plain) made.1 ∙ acted_plain (row_at old) key act keeps other
+carried_plain old new key act (Rejected row) keeps left other = ap (λ (table : Table). (row_at table other).plain) left.2
 
 -- ---- locks of a row
 
