@@ -1,36 +1,30 @@
 -- Walks over entries in ascending order of keys.
 use Rattle.std.proofs.Common.{◌≡◌, inl, inr, ℕ, Bool, true, false, cond, ◌&&◌, List, [], ◌∷◌, map, filter, find, Option, Some, None, refl, ap, sym, subst, ◌∙◌}
 use Rattle.std.specs.List.{Contains}
-use Rattle.std.specs.Option.{option_map, unwrap_or}
-use Rattle.std.specs.Ordering.{is_lt, is_eq, ordering_reverse}
+use Rattle.std.specs.Option.{option_map}
+use Rattle.std.specs.Ordering.{is_lt, ordering_reverse}
 use Rattle.std.specs.Cmp.{tied_itself}
 use Rattle.std.specs.declared.cmp.Ordering.TheVariants.{Less}
 use Rattle.std.specs.FinMap as finmap
-use Rattle.std.specs.FinMap.{entries_sorted, get-entries}
-use Rattle.std.specs.FinMap.Entries as entries
 use Rattle.std.specs.FinMap.Entries.{below_all, is_sorted}
 use Rattle.std.proofs.lemmas.Cmp.{nat_list_cmp_total}
-use Rattle.std.proofs.lemmas.Bool.{and_parts, and_left, cond-true, cond-false}
+use Rattle.std.proofs.lemmas.Bool.{and_parts, and_left, cond-false}
 use Rattle.pcj_term.specs.declared.triple.Triple.{Triple}
 use Rattle.pcj_term.specs.Order.{bytes_cmp}
-use Rattle.pcj_term.proofs.ByteLemmas.{same_bytes_are, less_is, is_eq-bytes_cmp}
+use Rattle.pcj_term.proofs.ByteLemmas.{less_is}
 use Rattle.pcj_term.proofs.OptionLemmas.{map_some}
-use Rattle.pcj_table.specs.declared.row.Row.{Row}
 use Rattle.pcj_table.specs.declared.found.Found.{Found}
-use Rattle.pcj_table.specs.Row.{no_row, has_nothing, is_seen_at}
-use Rattle.pcj_table.specs.Table.{Key, Table, row_at, found, is_before, is_between, is_next_at}
+use Rattle.pcj_table.specs.Row.{is_seen_at}
+use Rattle.pcj_table.specs.Table.{Key, row_at, found, is_before, is_between, is_next_at}
 use Rattle.pcj_encode.specs.declared.order.Order.TheVariants.{Spo}
 use Rattle.pcj_encode.specs.Range as kind
 use Rattle.pcj_encode.specs.Range.{range_of}
 use Rattle.pcj_rowtables.specs.Rows.{triple_key}
+use Rattle.pcj_table.proofs.EntryLemmas.{Entry, above_low, found_there, rising, row_there, there_with_row}
 use Rattle.pcj_sound.specs.Walk.{walked_keys, WalksGoOn, WalksEnd, WalksMeetTriples}
 use Rattle.pcj_term.proofs.ListLemmas.{nothing_in, first_or_later, first_there, later_there}
-use Rattle.pcj_term.proofs.BoolLemmas.{true_from_T}
 use Rattle.pcj_sound.proofs.Filtered.{there_before, passes_there, there_filtered}
 use Rattle.pcj_sound.proofs.Walks.{walked_parts, walks_see_triples}
-
-abbrev Entry : Type 0
-Entry = Key × Row
 
 -- ---- keys in order
 
@@ -39,22 +33,6 @@ not_before_itself key = ap is_lt (tied_itself nat_list_cmp_total key)
 
 not_back : (key other : Key) → bytes_cmp key other ≡ Less → is_before other key ≡ false
 not_back key other less = ap is_lt (nat_list_cmp_total.antisymm other key ∙ ap ordering_reverse less)
-
--- each key of the entries is above one that is below them all
-above_low : (low : Key) (es : List Entry) (entry : Entry) → below_all bytes_cmp low es ≡ true → Contains es entry → bytes_cmp low entry.0 ≡ Less
-above_low low [] entry all there = absurd (nothing_in entry there)
-above_low low (first ∷ es) entry all there = elim (first_or_later first es entry there) [
-  | inl here ↦ subst (λ (e : Entry). bytes_cmp low e.0 ≡ Less) here (less_is _ (and_parts _ _ all).0)
-  | inr later ↦ above_low low es entry (and_parts _ _ all).1 later
-]
-
-found_there : (test : Entry → Bool) (es : List Entry) (entry : Entry) → find test es ≡ Some entry → Contains es entry × (test entry ≡ true)
-found_there test [] entry is = absurd cc
-found_there test (first ∷ es) entry is = by (test first) refl is (λ later. found_there test es entry later)
-  where
-    by : (b : Bool) → test first ≡ b → cond b (Some first) (find test es) ≡ Some entry → (find test es ≡ Some entry → Contains es entry × (test entry ≡ true)) → Contains (first ∷ es) entry × (test entry ≡ true)
-    by true passes is later = let same : first ≡ entry = cc in (subst (λ e. Contains (first ∷ es) e) same (first_there first es), subst (λ e. test e ≡ true) same passes)
-    by false fails is later = let rest = later is in (later_there first es entry rest.0, rest.1)
 
 -- ---- steps of a walk
 
@@ -108,43 +86,6 @@ none_met test (first ∷ es) is = by (test first) is (λ later. none_met test es
     by : (b : Bool) → cond b (Some first) (find test es) ≡ None → (find test es ≡ None → filter test es ≡ []) → cond b (first ∷ filter test es) (filter test es) ≡ []
     by true is later = absurd cc
     by false is later = later is
-
--- ---- the rows of a table
-
--- where keys rise, a look-up gives the row that stands with the key
-looked_up : (es : List Entry) (entry : Entry) → is_sorted bytes_cmp es ≡ true → Contains es entry → entries.find bytes_cmp entry.0 es ≡ Some entry.1
-looked_up [] entry sorted there = absurd (nothing_in entry there)
-looked_up (first ∷ es) entry sorted there = elim (first_or_later first es entry there) [
-  | inl here ↦ subst (λ (e : Entry). entries.find bytes_cmp e.0 (first ∷ es) ≡ Some e.1) here (cond-true _ _ _ (ap is_eq (tied_itself nat_list_cmp_total first.0)))
-  | inr later ↦
-      let over = above_low first.0 es entry (and_parts _ _ sorted).0 later in
-      cond-false _ _ _ (ap is_eq (nat_list_cmp_total.antisymm entry.0 first.0 ∙ ap ordering_reverse over)) ∙ looked_up es entry (and_parts _ _ sorted).1 later
-]
-
--- and what it gives stands there
-there_looked_up : (es : List Entry) (key : Key) (row : Row) → entries.find bytes_cmp key es ≡ Some row → Contains es (key, row)
-there_looked_up [] key row is = absurd cc
-there_looked_up (first ∷ es) key row is = by (is_eq (bytes_cmp key first.0)) refl is (λ later. there_looked_up es key row later)
-  where
-    by : (b : Bool) → is_eq (bytes_cmp key first.0) ≡ b → cond b (Some first.1) (entries.find bytes_cmp key es) ≡ Some row → (entries.find bytes_cmp key es ≡ Some row → Contains es (key, row)) → Contains (first ∷ es) (key, row)
-    by true e is later =
-        let same : first.1 ≡ row = cc in
-        subst (λ (x : Entry). Contains (first ∷ es) x) (ap (λ k. (k, first.1)) (sym (same_bytes_are key first.0 (sym (is_eq-bytes_cmp key first.0) ∙ e))) ∙ ap (λ r. (key, r)) same) (first_there first es)
-    by false e is later = later_there first es (key, row) (later is)
-
-rising : (table : Table) → is_sorted bytes_cmp (finmap.entries table) ≡ true
-rising table = true_from_T _ (entries_sorted table)
-
-row_there : (table : Table) (entry : Entry) → Contains (finmap.entries table) entry → row_at table entry.0 ≡ entry.1
-row_there table entry there = ap (λ o. unwrap_or o no_row) (get-entries table entry.0 ∙ looked_up (finmap.entries table) entry (rising table) there)
-
-there_with_row : (table : Table) (key : Key) → has_nothing (row_at table key) ≡ false → Contains (finmap.entries table) (key, row_at table key)
-there_with_row table key some = by (finmap.get table key) refl some
-  where
-    by : (o : Option Row) → finmap.get table key ≡ o → has_nothing (unwrap_or o no_row) ≡ false → Contains (finmap.entries table) (key, row_at table key)
-    by None is some = absurd cc
-    by (Some row) is some =
-        subst (λ r. Contains (finmap.entries table) (key, r)) (sym (ap (λ o. unwrap_or o no_row) is)) (there_looked_up (finmap.entries table) key row (sym (get-entries table key) ∙ is))
 
 -- ---- the laws
 
