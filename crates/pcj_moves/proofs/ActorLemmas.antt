@@ -1,22 +1,20 @@
 -- Actors one by one, and what the step of one leaves of all.
-use Rattle.std.proofs.Common.{◌≡◌, ◌≢◌, ◌⊎◌, inl, inr, ℕ, Bool, true, false, ◌==◌, List, [], ◌∷◌, Option, Some, None, IfSome, refl, sym, subst, ◌∙◌, arith}
-use Rattle.std.proofs.lemmas.Bool.{eqb-true, eq-eqb}
-use Rattle.std.specs.List.{Contains}
+use Rattle.std.proofs.Common.{◌≡◌, ◌≢◌, ◌⊎◌, inl, inr, ℕ, Bool, true, false, ◌==◌, List, [], ◌∷◌, ◌++◌, Option, Some, None, IfSome, refl, sym, subst, ◌∙◌, arith}
+use Rattle.std.proofs.lemmas.Bool.{eq-eqb, eqb-true}
 use Rattle.std.proofs.lemmas.List.Elements.{Contains-append_cases, Contains-push_cases}
-use Rattle.pcj_table.specs.declared.lock.Lock.{Lock}
+use Rattle.std.specs.List.{Contains}
 use Rattle.pcj_table.specs.Table.{Key}
+use Rattle.pcj_table.specs.declared.lock.Lock.{Lock}
 use Rattle.pcj_mvcc.specs.Reading.{Rows}
-use Rattle.pcj_moves.specs.Traces.{Trace, traces, place}
+use Rattle.pcj_moves.specs.Traces.{Trace, place, traces}
+use Rattle.pcj_moves.specs.declared.answer.Answer.{Answer}
 use Rattle.pcj_moves.specs.Transactions.{Transaction, Transacts, lock_at}
-use Rattle.pcj_moves.specs.Recoveries.{Recovery, Recovers}
-use Rattle.pcj_moves.specs.Reads.{Answer, Reads, IsHidden}
-use Rattle.pcj_moves.specs.Actors.{Actor, IsSound, ArePair, Each, AreSound}
-use Rattle.pcj_moves.specs.Actors.{with_transaction}
+use Rattle.pcj_moves.specs.Recoveries.{Recovers, Recovery}
+use Rattle.pcj_moves.specs.Reads.{IsHidden, Reads}
+use Rattle.pcj_moves.specs.Actors.{Actor, ArePair, AreSound, Each, IsSound, with_transaction}
 use Rattle.pcj_moves.specs.TraceLaws.{ChangesTrace}
-use Rattle.pcj_moves.proofs.OtherLemmas.{transacts_stays, recovers_stays, hidden_stays}
-use Rattle.pcj_moves.specs.TraceLaws.{ChangesTrace}
-use Rattle.pcj_moves.specs.Traces.{place}
-use Rattle.pcj_moves.specs.Transactions.{Transacts}
+use Rattle.pcj_moves.proofs.TraceLemmas.{both}
+use Rattle.pcj_moves.proofs.OtherLemmas.{hidden_stays, recovers_stays, transacts_stays}
 
 -- ---- actors, one by one
 
@@ -58,16 +56,12 @@ pub each_sound : (rows : Rows) (actors : List Actor) → AreSound rows actors �
 each_sound rows [] sound = tt
 each_sound rows (actor ∷ actors) sound = (sound.0, each_sound rows actors sound.2)
 
-pub either_held : (answer held : Answer) (answers : List Answer) → Contains (answer ∷ answers) held → (held ≡ answer) ⊎ Contains answers held
-either_held answer held answers contains = by (Contains-append_cases (answer ∷ []) answers held contains)
+pub either_held : (answer held : Answer) (answers : List Answer) → Contains (answers ++ (answer ∷ [])) held → (held ≡ answer) ⊎ Contains answers held
+either_held answer held answers contains = by (Contains-push_cases answers answer held contains)
   where
-    by : Contains (answer ∷ []) held ⊎ Contains answers held → (held ≡ answer) ⊎ Contains answers held
-    by (inl first) = by_push (Contains-push_cases [] answer held first)
-      where
-        by_push : Contains [] held ⊎ (answer ≡ held) → (held ≡ answer) ⊎ Contains answers held
-        by_push (inl none) = absurd (let within = none.1 in omega arith)
-        by_push (inr same) = inl (sym same)
-    by (inr rest) = inr rest
+    by : Contains answers held ⊎ (answer ≡ held) → (held ≡ answer) ⊎ Contains answers held
+    by (inl rest) = inr rest
+    by (inr same) = inl (sym same)
 
 pub either_actor : (first other : Actor) (actors : List Actor) → Contains (first ∷ actors) other → (first ≡ other) ⊎ Contains actors other
 either_actor first other actors contains = by (Contains-append_cases (first ∷ []) actors other contains)

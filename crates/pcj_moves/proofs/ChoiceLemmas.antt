@@ -1,29 +1,29 @@
 -- What may be committed next, and what is read whichever of it is.
-use Rattle.std.proofs.Common.{◌≡◌, ◌≢◌, ◌⊎◌, inl, inr, ◌<◌, ℕ, Bool, true, false, nat_le, is_some, List, [], ◌∷◌, take, Option, Some, None, refl, ap, ap₂, sym, subst, ◌∙◌}
-use Rattle.std.specs.Option.{option_map}
-use Rattle.std.proofs.lemmas.Bool.{and_parts, eq-eqb, leb-true, leb-false}
-use Rattle.std.specs.List.{Contains}
+use Rattle.std.proofs.Common.{◌≡◌, ◌≢◌, ◌⊎◌, inl, inr, ◌<◌, ℕ, Bool, true, false, is_some, nat_le, List, [], ◌∷◌, take, Option, Some, None, refl, ap, ap₂, sym, subst, ◌∙◌}
+use Rattle.std.proofs.lemmas.Bool.{and_parts, eq-eqb, leb-false, leb-true}
 use Rattle.std.proofs.lemmas.List.Elements.{Contains-append_right}
+use Rattle.std.specs.List.{Contains}
+use Rattle.std.specs.Option.{option_map}
+use Rattle.pcj_table.specs.Row.{add_version, is_locked_at, newest, versions_up_to}
+use Rattle.pcj_table.specs.Table.{Key}
 use Rattle.pcj_table.specs.declared.lock.Lock.{Lock}
 use Rattle.pcj_table.specs.declared.row.Row.{Row}
-use Rattle.pcj_table.specs.Row.{is_locked_at, newest, versions_up_to, add_version}
-use Rattle.pcj_table.specs.Table.{Key}
-use Rattle.pcj_mvcc.specs.Acts.{lock_of, version_of, prewrite_act, commit_act}
-use Rattle.pcj_mvcc.specs.Reading.{Rows, acted, reading, versions_read, put_of, with_lock, commit_of, committed}
-use Rattle.pcj_mvcc.proofs.Laws.{replace_keeps_all, replaced, read_uncommitted}
+use Rattle.pcj_mvcc.proofs.Laws.{read_uncommitted, replace_keeps_all, replaced}
+use Rattle.pcj_mvcc.proofs.Versions.{commit_added, commit_kept, later_added, version_of_start}
+use Rattle.pcj_mvcc.specs.Acts.{commit_act, lock_of, prewrite_act, version_of}
+use Rattle.pcj_mvcc.specs.Choices.{Choice, committed_row, under}
+use Rattle.pcj_mvcc.specs.Reading.{Put, Rows, acted, commit_of, committed, put_of, reading, versions_read, with_lock}
+use Rattle.pcj_moves.specs.Traces.{lock_from, place, traces}
+use Rattle.pcj_moves.specs.declared.answer.Answer.{Answer}
+use Rattle.pcj_moves.specs.Transactions.{IsRipe, Transacts, as_committed, primary_of, with_commit, with_next, write_at}
+use Rattle.pcj_moves.specs.Reads.{IsHidden, covers}
+use Rattle.pcj_moves.specs.Actors.{Actor, ArePair, AreSound, Each, IsSound, with_transaction}
+use Rattle.pcj_moves.specs.ChoiceLaws.{DrawRipe, IsRipeAt, NumbersStay, PrewriteRipe, PrimaryRipe, ReadsUnderChoice, UnlockRipe}
+use Rattle.pcj_moves.proofs.TraceLemmas.{none_there, none_where_locked, other_lock, prewrite_changes, replace_changes, unequal_false}
+use Rattle.pcj_moves.proofs.OtherLemmas.{lock_is, unwritten_unlocked}
+use Rattle.pcj_moves.proofs.OwnLemmas.{lock_is_of_write, names_primary, place_each}
+use Rattle.pcj_moves.proofs.ActorLemmas.{by_number, each_contains, each_map, each_sound, either_actor}
 use Rattle.pcj_mvcc.specs.Choices.{Choice, under, committed_row, with_commit as with_commit_row}
-use Rattle.pcj_mvcc.proofs.Versions.{version_of_start, commit_added, commit_kept, later_added}
-use Rattle.pcj_moves.specs.Traces.{traces, place, lock_from}
-use Rattle.pcj_moves.specs.Transactions.{Transacts, IsRipe, write_at, primary_of}
-use Rattle.pcj_moves.specs.Reads.{covers, Answer, IsHidden}
-use Rattle.pcj_moves.specs.Actors.{Actor, IsSound, ArePair, Each, AreSound}
-use Rattle.pcj_moves.specs.Transactions.{with_next, as_committed, with_commit}
-use Rattle.pcj_moves.specs.Actors.{with_transaction}
-use Rattle.pcj_moves.specs.ChoiceLaws.{IsRipeAt, UnlockRipe, PrewriteRipe, PrimaryRipe, DrawRipe, ReadsUnderChoice, NumbersStay}
-use Rattle.pcj_moves.proofs.TraceLemmas.{unequal_false, none_there, other_lock, none_where_locked, prewrite_changes, replace_changes}
-use Rattle.pcj_moves.proofs.OtherLemmas.{unwritten_unlocked, lock_is}
-use Rattle.pcj_moves.proofs.OwnLemmas.{place_each, lock_is_of_write, names_primary}
-use Rattle.pcj_moves.proofs.ActorLemmas.{by_number, each_map, each_sound, either_actor, each_contains}
 
 -- ---- what is ripe
 
@@ -146,7 +146,7 @@ under_at choice rows key lock commit e locked = ap (λ c. with_commit_row c (row
 
 pub reads_under_choice : ReadsUnderChoice
 reads_under_choice rows actors choice reader answers order sound is hidden reads answer held key covered =
-    ap (λ vs. put_of (newest vs)) (by (choice key) refl) ∙ reads answer held key covered
+    ap (λ vs. option_map (λ (put : Put). put.0) (put_of (newest vs))) (by (choice key) refl) ∙ reads answer held key covered
   where
     is_chosen : (primary : Key) (commit : ℕ) → choice primary ≡ Some commit → IsChosen rows primary commit reader key
     is_chosen primary commit e = chosen rows actors reader answers answer key sound hidden held covered primary commit (is primary commit e)

@@ -1,5 +1,6 @@
 -- A step of one actor that leaves the rows as they are, with any others.
-use Rattle.std.proofs.Common.{◌≡◌, ◌⊎◌, inl, inr, ℕ, zero, suc, Bool, true, false, is_some, ◌==◌, [], ◌∷◌, take, Option, Some, None, IfSome, refl, ap, ap₂, sym, subst, ◌∙◌, arith}
+use Rattle.std.proofs.Common.{◌≡◌, ◌⊎◌, inl, inr, ℕ, Bool, true, false, is_some, ◌==◌, [], ◌∷◌, ◌++◌, Option, Some, None, IfSome, refl, ap, ap₂, sym, subst, ◌∙◌, arith}
+use Rattle.std.proofs.lemmas.Bool.{and_parts}
 use Rattle.std.specs.List.{Contains, find}
 use Rattle.std.specs.Option.{option_map}
 use Rattle.pcj_table.specs.Row.{is_locked_at}
@@ -7,19 +8,21 @@ use Rattle.pcj_table.specs.Table.{Key}
 use Rattle.pcj_table.specs.declared.lock.Lock.{Lock}
 use Rattle.pcj_table.specs.declared.row.Row.{Row}
 use Rattle.pcj_table.specs.declared.version.Version.{Version}
-use Rattle.pcj_mvcc.specs.Acts.{lock_of}
-use Rattle.pcj_mvcc.specs.Reading.{commit_of, seen}
+use Rattle.pcj_mvcc.proofs.Laws.{rolled_back}
+use Rattle.pcj_mvcc.proofs.Rows.{put_same}
+use Rattle.pcj_mvcc.specs.Reading.{commit_of}
 use Rattle.pcj_moves.specs.Traces.{Traces, lock_from, lock_trace, no_trace, trace, traces, version_trace}
+use Rattle.pcj_moves.specs.declared.answer.Answer.{Answer}
 use Rattle.pcj_moves.specs.Transactions.{IsHeld, IsLost, Transaction, Transacts, as_committed, as_version, lock_at, new_transaction, primary_of, with_commit, write_at}
-use Rattle.pcj_moves.specs.Recoveries.{IsOfWrite, Knows, Recovery, told_by, with_known}
-use Rattle.pcj_moves.specs.Reads.{Answer, IsHidden, Reads, covers, finds}
+use Rattle.pcj_moves.specs.Recoveries.{IsOfWrite, Knows, Recovery, told, told_by, with_known}
+use Rattle.pcj_moves.specs.Reads.{IsHidden, Reads, covers, finds, value_seen}
 use Rattle.pcj_moves.specs.Actors.{Actor, ArePair, IsBelow, IsOlder, IsSound, new_actor, with_answer, with_recovery, with_transaction}
-use Rattle.pcj_moves.specs.StepLaws.{AnswerStep, BeginStep, DrawStep, EmptyStep, RecoveryBegins, RecoveryLearns, RecoveryStep, WritesStep}
-use Rattle.pcj_moves.proofs.TraceLemmas.{both}
+use Rattle.pcj_moves.specs.StepLaws.{AnswerStep, BeginStep, DrawStep, DropTells, EmptyStep, RecoveryBegins, RecoveryLearns, RecoveryStep, WritesStep}
+use Rattle.pcj_moves.proofs.TraceLemmas.{both, none_where_locked}
 use Rattle.pcj_moves.proofs.OtherLemmas.{hidden_read, lock_is}
 use Rattle.pcj_moves.proofs.OwnLemmas.{draw_goes_on, hidden_committed, hidden_drawn, hidden_undrawn, lock_is_of_write}
 use Rattle.pcj_moves.proofs.ActorLemmas.{KeepsAll, each_holds, each_map, each_sound, either_held, if_some, sound_after}
-use Rattle.pcj_moves.proofs.StepLemmas.{trace_lock}
+use Rattle.pcj_moves.proofs.StepLemmas.{nothing_is_free, trace_lock}
 
 pub draw_step : DrawStep
 draw_step rows actor others commit all not_yet below sound = (own sound.0, each_map (IsBelow commit) paired _ (λ other lower pair. (from_mover other lower pair.0, to_mover other lower pair.1)) others below.1 sound.1, sound.2)
@@ -55,13 +58,6 @@ draw_step rows actor others commit all not_yet below sound = (own sound.0, each_
 
 -- ---- the commit of nothing
 
-nothing_locked : (start : ℕ) (transaction : Transaction) → transaction.writes ≡ [] → (key : Key) → lock_at start transaction key ≡ None
-nothing_locked start transaction none key = ap (λ writes. option_map (λ w. lock_of w start (primary_of transaction)) (write_at (take transaction.prewritten writes) key)) none ∙ by transaction.prewritten
-  where
-    by : (n : ℕ) → option_map (λ w. lock_of w start (primary_of transaction)) (write_at (take n []) key) ≡ None
-    by zero = refl
-    by (suc n) = refl
-
 pub empty_step : EmptyStep
 empty_step rows actor others commit none drawn not_yet sound = sound_after _ rows rows actor (with_transaction actor (as_committed transaction)) others step (each_holds _ (λ other. tt) others) sound
   where
@@ -75,11 +71,11 @@ empty_step rows actor others commit none drawn not_yet sound = sound_after _ row
     held transacts key = by (transacts.undone not_yet)
       where
         by : IsHeld (lock_at actor.start transaction) at ⊎ IsLost (primary_of transaction) (lock_at actor.start transaction) at → at key ≡ no_trace
-        by (inl all) = all key ∙ ap lock_trace (nothing_locked actor.start transaction none key)
-        by (inr lost) = absurd (let clash = ap is_some (nothing_locked actor.start transaction none (primary_of transaction)) in let some = lost.some in cc)
+        by (inl all) = all key ∙ ap lock_trace (nothing_is_free actor.start transaction key none)
+        by (inr lost) = absurd (let clash = ap is_some (nothing_is_free actor.start transaction (primary_of transaction) none) in let some = lost.some in cc)
 
     free : (key : Key) → version_trace (as_version commit (lock_at actor.start transaction key)) ≡ no_trace
-    free key = ap (λ lock. version_trace (as_version commit lock)) (nothing_locked actor.start transaction none key)
+    free key = ap (λ lock. version_trace (as_version commit lock)) (nothing_is_free actor.start transaction key none)
 
     step : KeepsAll (λ other. Unit {0}) rows rows actor (with_transaction actor (as_committed transaction))
     step = record {
@@ -126,10 +122,10 @@ answer_step rows actor others answer read sound = (own sound.0, each_map (IsSoun
     own : IsSound rows actor → IsSound rows mover
     own is = record { reads = reads is.reads; transacts = is.transacts; recovers = is.recovers }
       where
-        reads : Reads rows actor.start actor.answers → Reads rows actor.start (answer ∷ actor.answers)
+        reads : Reads rows actor.start actor.answers → Reads rows actor.start (actor.answers ++ (answer ∷ []))
         reads old held contains key covered = by (either_held answer held actor.answers contains)
           where
-            by : (held ≡ answer) ⊎ Contains actor.answers held → seen rows key actor.start ≡ finds held key
+            by : (held ≡ answer) ⊎ Contains actor.answers held → value_seen rows key actor.start ≡ finds held key
             by (inl same) = read.seen_there key (ap (λ (a : Answer). covers a key) (sym same) ∙ covered) ∙ ap (λ (a : Answer). finds a key) (sym same)
             by (inr rest) = old held rest key covered
 
@@ -139,7 +135,7 @@ answer_step rows actor others answer read sound = (own sound.0, each_map (IsSoun
     to_mover : (other : Actor) → IsSound rows other → ArePair rows other actor → ArePair rows other mover
     to_mover other is pair = record { apart = record { starts = pair.apart.starts; commits = pair.apart.commits }; hidden = hidden; recovers = pair.recovers }
       where
-        hidden : IsHidden other.start other.transaction (traces other.start rows) actor.start (answer ∷ actor.answers)
+        hidden : IsHidden other.start other.transaction (traces other.start rows) actor.start (actor.answers ++ (answer ∷ []))
         hidden commit ripe le held contains key covered = by (either_held answer held actor.answers contains)
           where
             by : (held ≡ answer) ⊎ Contains actor.answers held → write_at other.transaction.writes key ≡ None
@@ -206,6 +202,11 @@ recovery_learns rows recovery differs recovers = record {
     by (Some commit) e locked f = (differs, e)
     by None e true f = tt
     by None e false f = (differs, untouched primary start e f)
+
+pub drop_tells : DropTells
+drop_tells rows key start order allowed =
+    ap (told start) (put_same rows key (rolled_back (rows key)))
+    ∙ ap (λ c. told_by c false) (ap (option_map (λ v. v.commit)) (none_where_locked rows key start order (and_parts _ _ allowed).0))
 
 -- ---- an actor begins
 

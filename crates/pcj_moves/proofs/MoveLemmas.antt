@@ -5,12 +5,12 @@ use Rattle.std.specs.List.{list_all}
 use Rattle.pcj_table.specs.Table.{Key}
 use Rattle.pcj_table.specs.declared.lock.Lock.{Lock}
 use Rattle.pcj_mvcc.proofs.Versions.{all_weaker}
-use Rattle.pcj_mvcc.specs.Reading.{Rows}
+use Rattle.pcj_mvcc.specs.Reading.{Rows, commit_of}
 use Rattle.pcj_mvcc.specs.Times.{TimesInOrder, ascends, starts_first}
 use Rattle.pcj_moves.specs.Traces.{lock_from, no_trace, traces}
 use Rattle.pcj_moves.specs.Actors.{Actor, IsOlder, new_actor}
-use Rattle.pcj_moves.specs.Moves.{AreBelow, Begins, Ends, IsConsistent, Moves, NumbersAreOwn, actor_after}
-use Rattle.pcj_moves.specs.MoveLaws.{EmptyIsConsistent, RunIsConsistent, StepIsConsistent}
+use Rattle.pcj_moves.specs.Moves.{AreBelow, Begins, Ends, IsConsistent, Loses, Moves, NumbersAreOwn, actor_after}
+use Rattle.pcj_moves.specs.MoveLaws.{EmptyIsConsistent, HigherIsConsistent, RunIsConsistent, StepIsConsistent}
 use Rattle.pcj_moves.proofs.OrderLemmas.{actor_comes_first, actor_goes_back, each_apart, each_together}
 use Rattle.pcj_moves.proofs.TraceLemmas.{both, none_of_start, unequal_false}
 use Rattle.pcj_moves.proofs.GoOnLemmas.{begin_step}
@@ -23,6 +23,7 @@ pub comes_first : (number : ℕ) (rows : Rows) (front : List Actor) (actor : Act
 comes_first number rows front actor back is = record {
   times = is.times;
   named = is.named;
+  once = is.once;
   below = is.below;
   sound = actor_comes_first rows front actor back is.sound;
   older = each_apart (IsOlder number) front actor back is.older;
@@ -34,6 +35,7 @@ goes_back : (number : ℕ) (rows : Rows) (front : List Actor) (actor : Actor) (b
 goes_back number rows front actor back is = record {
   times = is.times;
   named = is.named;
+  once = is.once;
   below = is.below;
   sound = actor_goes_back rows front actor back is.sound;
   older = each_together (IsOlder number) front actor back is.older.0 is.older.1;
@@ -56,6 +58,7 @@ begin_kept : (number start : ℕ) (rows : Rows) (actors : List Actor) → number
 begin_kept number start rows actors le is = record {
   times = is.times;
   named = is.named;
+  once = is.once;
   below = more_below number (suc start) rows (omega arith) is.below;
   sound = begin_step rows start actors (nothing_of number start rows le is.times is.below) (each_older number start le actors is.older) is.sound;
   older = (record { below = record { start = omega arith; commit = λ commit e. absurd cc }; recovers = tt }, each_older number (suc start) (omega arith) actors is.older);
@@ -79,6 +82,7 @@ empty_is_consistent number rows none = record {
     first = λ key. ap (list_all starts_first) (none key).1;
   };
   named = λ key lock e. absurd (let clash : None ≡ Some lock = sym (none key).0 ∙ e in cc);
+  once = λ key start commit e. absurd (let clash : None ≡ Some commit = ap (commit_of start) (sym (none key).1) ∙ e in cc);
   below = record {
     versions = λ key. ap (list_all (λ v. nat_lt v.commit number)) (none key).1;
     locks = λ key lock e. absurd (let clash : None ≡ Some lock = sym (none key).0 ∙ e in cc);
@@ -86,6 +90,17 @@ empty_is_consistent number rows none = record {
   sound = tt;
   older = tt;
   own = tt;
+}
+
+pub higher_is_consistent : HigherIsConsistent
+higher_is_consistent number more rows actors le is = record {
+  times = is.times;
+  named = is.named;
+  once = is.once;
+  below = more_below number more rows le is.below;
+  sound = is.sound;
+  older = each_older number more le actors is.older;
+  own = is.own;
 }
 
 pub step_is_consistent : StepIsConsistent
@@ -98,7 +113,8 @@ step_is_consistent before (Begins start) after is happens = subst IsConsistent (
 step_is_consistent before (Ends front actor back) after is happens =
     subst IsConsistent (sym happens.1)
     (let first = comes_first before.number before.rows front actor back (subst (λ actors. IsConsistent (record { number = before.number; rows = before.rows; actors = actors })) happens.0 is) in
-    record { times = first.times; named = first.named; below = first.below; sound = first.sound.2; older = first.older.1; own = first.own.1 })
+    record { times = first.times; named = first.named; once = first.once; below = first.below; sound = first.sound.2; older = first.older.1; own = first.own.1 })
+step_is_consistent before (Loses number) after is happens = subst IsConsistent (sym happens.1) (higher_is_consistent before.number number before.rows before.actors happens.0 is)
 
 pub run_is_consistent : RunIsConsistent
 run_is_consistent before [] after is runs = subst IsConsistent (sym runs) is

@@ -1,19 +1,19 @@
 -- What an act leaves of actors of other starts.
-use Rattle.std.proofs.Common.{◌≡◌, ◌⊎◌, inl, inr, ℕ, Bool, true, false, nat_le, cond, ◌==◌, is_some, take, length, Option, Some, None, refl, ap, sym, subst, ◌∙◌, arith}
-use Rattle.std.specs.Option.{option_map}
-use Rattle.std.proofs.lemmas.Bool.{le-leb, leb-true, leb-false, eqb-true}
+use Rattle.std.proofs.Common.{◌≡◌, ◌⊎◌, inl, inr, ℕ, Bool, true, false, cond, is_some, ◌==◌, nat_le, length, take, Option, Some, None, refl, ap, sym, subst, ◌∙◌, arith}
+use Rattle.std.proofs.lemmas.Bool.{eqb-true, le-leb, leb-false, leb-true}
 use Rattle.std.proofs.lemmas.List.{take_all}
+use Rattle.std.specs.Option.{option_map}
+use Rattle.pcj_table.specs.Row.{is_locked_at, newest, versions_up_to}
+use Rattle.pcj_table.specs.Table.{Key, found}
 use Rattle.pcj_table.specs.declared.lock.Lock.{Lock}
 use Rattle.pcj_table.specs.declared.write.Write.{Write}
-use Rattle.pcj_table.specs.Row.{is_locked_at, newest, versions_up_to}
-use Rattle.pcj_table.specs.Table.{Key}
 use Rattle.pcj_mvcc.specs.Acts.{lock_of}
-use Rattle.pcj_mvcc.specs.Reading.{Rows, put_of, seen, lock_up_to}
-use Rattle.pcj_moves.specs.Traces.{Trace, Traces, traces, lock_from}
-use Rattle.pcj_moves.specs.Transactions.{Transaction, Transacts, IsHeld, IsLost, IsRipe, write_at, lock_at, primary_of}
+use Rattle.pcj_mvcc.specs.Reading.{Put, Rows, lock_up_to, put_of, seen}
+use Rattle.pcj_moves.specs.Traces.{Trace, Traces, lock_from, traces}
+use Rattle.pcj_moves.specs.Transactions.{IsHeld, IsLost, IsRipe, Transaction, Transacts, lock_at, primary_of, write_at}
 use Rattle.pcj_moves.specs.Recoveries.{Recovers}
-use Rattle.pcj_moves.specs.Reads.{finds, IsHidden}
-use Rattle.pcj_moves.specs.ActorLaws.{TransactsStays, RecoversStays, HiddenStays, ReadsStay, ReadsPassCommit, HiddenRead}
+use Rattle.pcj_moves.specs.Reads.{IsHidden, finds, value_seen}
+use Rattle.pcj_moves.specs.ActorLaws.{HiddenRead, HiddenStays, ReadsPassCommit, ReadsStay, RecoversStays, TransactsStays}
 
 pub transacts_stays : TransactsStays
 transacts_stays start key new before after changes other transaction differs = subst (Transacts other transaction) (sym (changes.others other differs))
@@ -25,7 +25,7 @@ pub hidden_stays : HiddenStays
 hidden_stays start key new before after changes other transaction reader answers differs = subst (λ at. IsHidden other transaction at reader answers) (sym (changes.others other differs))
 
 pub reads_stay : ReadsStay
-reads_stay before after reader answers same reads answer held key covered = ap (λ vs. put_of (newest (versions_up_to reader vs))) (same key) ∙ reads answer held key covered
+reads_stay before after reader answers same reads answer held key covered = ap (λ vs. option_map (λ (put : Put). put.0) (put_of (newest (versions_up_to reader vs)))) (same key) ∙ reads answer held key covered
 
 -- a ripe transaction has all its locks
 pub ripe_is_held : (start : ℕ) (transaction : Transaction) (at : Traces) (commit : ℕ) → Transacts start transaction at → IsRipe start transaction at commit → IsHeld (lock_at start transaction) at
@@ -56,9 +56,12 @@ unwritten_unlocked start transaction rows commit transacts ripe key none =
 pub reads_pass_commit : ReadsPassCommit
 reads_pass_commit start commit transaction before after reader answers transacts ripe hidden at_once reads answer held key covered = by (nat_le commit reader) refl
   where
-    by : (b : Bool) → nat_le commit reader ≡ b → seen after key reader ≡ finds answer key
-    by true e = (at_once.others key (unwritten_unlocked start transaction before commit transacts ripe key (hidden commit ripe (leb-true commit reader e) answer held key covered))).sees reader ∙ reads answer held key covered
-    by false e = at_once.before key reader (leb-false commit reader e) ∙ reads answer held key covered
+    value : seen after key reader ≡ seen before key reader → value_seen after key reader ≡ value_seen before key reader
+    value same = ap (option_map (λ (put : Put). put.0)) same
+
+    by : (b : Bool) → nat_le commit reader ≡ b → value_seen after key reader ≡ finds answer key
+    by true e = value ((at_once.others key (unwritten_unlocked start transaction before commit transacts ripe key (hidden commit ripe (leb-true commit reader e) answer held key covered))).sees reader) ∙ reads answer held key covered
+    by false e = value (at_once.before key reader (leb-false commit reader e)) ∙ reads answer held key covered
 
 pub lock_is : (lock : Option Lock) (start : ℕ) (found : Lock) → lock_from start lock ≡ Some found → (lock ≡ Some found) × (found.start ≡ start)
 lock_is None start found e = absurd cc

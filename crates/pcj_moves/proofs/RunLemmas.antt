@@ -6,7 +6,7 @@ use Rattle.pcj_mvcc.specs.Reading.{Rows}
 use Rattle.pcj_moves.specs.Traces.{traces}
 use Rattle.pcj_moves.specs.Transactions.{Transaction, Transacts, write_at}
 use Rattle.pcj_moves.specs.Actors.{Actor, ArePair, AreSound, Each, IsOlder, IsSound}
-use Rattle.pcj_moves.specs.Moves.{Begins, CommitNothing, CommitPrimary, CommitSecondary, Draw, DropPrimary, EndRecovery, Ends, Happens, IsAllowed, IsConsistent, Learn, Meet, Move, Moves, Plan, Prewrite, Read, RollBack, RollForward, Runs, State, Step, WritePlain, actor_after}
+use Rattle.pcj_moves.specs.Moves.{Begins, CommitNothing, CommitPrimary, CommitSecondary, Draw, DropPrimary, EndRecovery, Ends, Happens, IsAllowed, IsConsistent, Learn, Loses, Meet, Move, Moves, Plan, Prewrite, Read, RollBack, RollForward, Runs, State, Step, WritePlain, actor_after}
 use Rattle.pcj_moves.specs.StandingLaws.{version_read, version_written}
 use Rattle.pcj_moves.specs.RunLaws.{TransactionRuns, TransactionWaits}
 use Rattle.pcj_moves.proofs.OrderLemmas.{each_apart, each_together}
@@ -64,6 +64,7 @@ step_keeps_writes before (Begins new) after start write rest happens lower each 
 step_keeps_writes before (Ends front actor back) after start write rest happens lower each =
     subst (λ (s : State). Each (HasWrites start (write ∷ rest)) s.actors) (sym happens.1)
     (each_apart (HasWrites start (write ∷ rest)) front actor back (subst (Each (HasWrites start (write ∷ rest))) happens.0 each)).1
+step_keeps_writes before (Loses number) after start write rest happens lower each = subst (λ (s : State). Each (HasWrites start (write ∷ rest)) s.actors) (sym happens.1) each
 
 run_keeps_writes : (before : State) (steps : List Step) (after : State) (start : ℕ) (write : Write) (rest : List Write) → Runs before steps after → start < before.number →
     Each (HasWrites start (write ∷ rest)) before.actors → Each (HasWrites start (write ∷ rest)) after.actors

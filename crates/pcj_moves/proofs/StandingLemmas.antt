@@ -16,15 +16,15 @@ use Rattle.pcj_mvcc.specs.Acts.{lock_of, version_of}
 use Rattle.pcj_mvcc.specs.Laws.{StandsAtOnce}
 use Rattle.pcj_mvcc.specs.Reading.{Rows, SameReading, committed, put_of, versions_read}
 use Rattle.pcj_mvcc.specs.Times.{ascends}
-use Rattle.pcj_moves.specs.Traces.{Trace, Traces, lock_trace, no_trace, traces, version_trace}
-use Rattle.pcj_moves.specs.Transactions.{IsHeld, IsLost, IsRipe, IsWon, Transaction, Transacts, as_version, lock_at, primary_of, write_at}
+use Rattle.pcj_moves.specs.Traces.{Trace, Traces, lock_trace, traces, version_trace}
+use Rattle.pcj_moves.specs.Transactions.{IsRipe, IsWon, Transaction, Transacts, as_version, lock_at, primary_of, write_at}
 use Rattle.pcj_moves.specs.Moves.{CommitNothing, CommitPrimary, CommitSecondary, Draw, DropPrimary, EndRecovery, Learn, Meet, Plan, Prewrite, Read, RollBack, RollForward, WritePlain}
 use Rattle.pcj_moves.specs.StandingLaws.{AllAreSeen, AllStand, NoneStands, OneMoveChanges, StandsWhole, version_read, version_written}
 use Rattle.pcj_moves.proofs.TraceLemmas.{row_stays}
 use Rattle.pcj_moves.proofs.WriteLemmas.{undrawn_is_undone}
 use Rattle.pcj_moves.proofs.OtherLemmas.{lock_is, not_locked, ripe_is_held, unwritten_unlocked}
 use Rattle.pcj_moves.proofs.OwnLemmas.{primary_first}
-use Rattle.pcj_moves.proofs.StepLemmas.{at_primary, names_one, recovery_drops_primary, recovery_rolls_back, recovery_rolls_forward, secondary_unlocks, uncommitted}
+use Rattle.pcj_moves.proofs.StepLemmas.{at_primary, names_one, no_version_yet, recovery_drops_primary, recovery_rolls_back, recovery_rolls_forward, secondary_unlocks, uncommitted}
 use Rattle.pcj_moves.proofs.ConsistencyLemmas.{its_first, its_recovery, its_write}
 
 -- ---- what is read of a start in a row
@@ -56,20 +56,12 @@ read_of_lock rows key lock commit e is none =
 pub none_stands : NoneStands
 none_stands rows start transaction order transacts not_yet key = by (lock_cases (rows key).lock start)
   where
-    none : IsHeld (lock_at start transaction) (traces start rows) ⊎ IsLost (primary_of transaction) (lock_at start transaction) (traces start rows) → version_there start rows key ≡ None
-    none (inl held) = ap (λ (t : Trace). t.version) (held key)
-    none (inr lost) = each (lost.each key)
-      where
-        each : (traces start rows key ≡ lock_trace (lock_at start transaction key)) ⊎ (traces start rows key ≡ no_trace) → version_there start rows key ≡ None
-        each (inl locked) = ap (λ (t : Trace). t.version) locked
-        each (inr gone) = ap (λ (t : Trace). t.version) gone
-
     by : ((l : Lock) × ((rows key).lock ≡ Some l) × (l.start ≡ start)) ⊎ (is_locked_at start (rows key).lock ≡ false) → version_read start rows key ≡ None
     by (inl found) =
         ap (find (λ version. version.start == start)) (read_uncommitted rows key found.0 found.1
         (ap₂ (committed rows) (names_one rows start transaction transacts key found.0 found.1 found.2) found.2 ∙ uncommitted rows start transaction transacts not_yet))
-        ∙ none (transacts.undone not_yet)
-    by (inr free) = read_without_lock rows key start free ∙ none (transacts.undone not_yet)
+        ∙ no_version_yet rows start transaction transacts not_yet key
+    by (inr free) = read_without_lock rows key start free ∙ no_version_yet rows start transaction transacts not_yet key
 
 pub all_stand : AllStand
 all_stand rows start transaction commit order transacts done drawn key = by (won.each key) ∙ written

@@ -1,7 +1,8 @@
 -- A step of one actor that changes a row, with any others.
-use Rattle.std.proofs.Common.{◌≡◌, ◌≢◌, ◌⊎◌, inl, inr, ◌<◌, ℕ, true, false, cond, is_some, ◌==◌, List, ◌∷◌, length, take, Option, Some, None, refl, ap, sym, subst, ◌∙◌, arith}
+use Rattle.std.proofs.Common.{◌≡◌, ◌≢◌, ◌⊎◌, inl, inr, ◌<◌, ℕ, zero, suc, true, false, cond, is_some, ◌==◌, List, [], ◌∷◌, length, take, Option, Some, None, refl, ap, sym, subst, ◌∙◌, arith}
 use Rattle.std.proofs.lemmas.Bool.{and_parts, eq-eqb}
 use Rattle.std.proofs.lemmas.List.{take_all}
+use Rattle.std.specs.List.{find}
 use Rattle.std.specs.Option.{option_map}
 use Rattle.pcj_term.proofs.ByteLemmas.{same_bytes_itself}
 use Rattle.pcj_table.specs.Table.{Key}
@@ -13,14 +14,16 @@ use Rattle.pcj_mvcc.proofs.Laws.{commits_stand, prewrite_keeps, primary_commits,
 use Rattle.pcj_mvcc.proofs.Rows.{put_same}
 use Rattle.pcj_mvcc.specs.Acts.{commit_act, lock_of, prewrite_act, version_of}
 use Rattle.pcj_mvcc.specs.Laws.{StandsAtOnce}
-use Rattle.pcj_mvcc.specs.Reading.{OnePrimary, OnlyLock, Rows, SameReading, acted, allows, committed}
+use Rattle.pcj_mvcc.specs.Reading.{OnePrimary, OnlyLock, Put, Rows, SameReading, acted, allows, committed}
 use Rattle.pcj_mvcc.specs.Times.{TimesInOrder}
 use Rattle.pcj_moves.specs.Traces.{Trace, Traces, lock_from, lock_trace, no_trace, place, traces, version_trace}
+use Rattle.pcj_moves.specs.declared.answer.Answer.{Answer}
 use Rattle.pcj_moves.specs.Transactions.{IsHeld, IsLost, IsRipe, IsWon, Transaction, Transacts, as_committed, as_version, first_key, lock_at, primary_of, with_next, write_at}
 use Rattle.pcj_moves.specs.Recoveries.{Knows, Recovers, Recovery}
-use Rattle.pcj_moves.specs.Reads.{Answer, IsHidden, Reads}
+use Rattle.pcj_moves.specs.Reads.{IsHidden, Reads}
 use Rattle.pcj_moves.specs.Actors.{Actor, ArePair, IsSound}
 use Rattle.pcj_moves.specs.TraceLaws.{ChangesTrace}
+use Rattle.pcj_moves.specs.ActorLaws.{LocksNamePrimary, MetIsOther, NextIsFree, NothingIsFree}
 use Rattle.pcj_moves.specs.StepLaws.{PrewriteStep, PrimaryStep, RecoveryDropsPrimary, RecoveryRollsBack, RecoveryRollsForward, RollBackUnlocks, RollForwardUnlocks, SecondaryUnlocks, StayStep, UnlockStep, Unlocks}
 use Rattle.pcj_moves.proofs.TraceLemmas.{locked_trace, prewrite_changes, replace_changes, roll_back_changes}
 use Rattle.pcj_moves.proofs.OtherLemmas.{hidden_stays, reads_pass_commit, reads_stay, recovers_stays, transacts_stays}
@@ -109,8 +112,22 @@ roll_forward_unlocks rows key lock commit order allowed only one differs is =
 pub trace_lock : (rows : Rows) (key : Key) (start : ℕ) (lock : Lock) → (rows key).lock ≡ Some lock → lock.start ≡ start → (traces start rows key).lock ≡ Some lock
 trace_lock rows key start lock e same = ap (lock_from start) e ∙ rw (ap (λ s. s == start) same ∙ eq-eqb start start refl) refl
 
+pub met_is_other : MetIsOther
+met_is_other rows start transaction key lock transacts free locked same =
+    let clash : None ≡ Some lock = sym free ∙ lock_is_of_write start transaction (traces start rows) key lock transacts (trace_lock rows key start lock locked same) in cc
+
+pub next_is_free : NextIsFree
+next_is_free start transaction write next = ap (option_map (λ w. lock_of w start (primary_of transaction))) next.new
+
+pub nothing_is_free : NothingIsFree
+nothing_is_free start transaction key none = ap (λ writes. option_map (λ w. lock_of w start (primary_of transaction)) (write_at (take transaction.prewritten writes) key)) none ∙ by transaction.prewritten
+  where
+    by : (n : ℕ) → option_map (λ w. lock_of w start (primary_of transaction)) (write_at (take n []) key) ≡ None
+    by zero = refl
+    by (suc n) = refl
+
 -- the primary of a transaction is named by all its locks
-pub names_one : (rows : Rows) (start : ℕ) (transaction : Transaction) → Transacts start transaction (traces start rows) → OnePrimary rows (primary_of transaction) start
+pub names_one : LocksNamePrimary
 names_one rows start transaction transacts key l e same =
     sym (names_primary start (primary_of transaction) (write_at (take transaction.prewritten transaction.writes) key) l
     (lock_is_of_write start transaction (traces start rows) key l transacts (trace_lock rows key start l e same)))
@@ -164,12 +181,21 @@ secondary_unlocks rows start transaction write commit order transacts done drawn
 
 -- ---- the prewrite of a row
 
-pub uncommitted : (rows : Rows) (start : ℕ) (transaction : Transaction) → Transacts start transaction (traces start rows) → transaction.committed ≡ false → committed rows (primary_of transaction) start ≡ None
-uncommitted rows start transaction transacts not_yet = by (transacts.undone not_yet)
+-- no row has a version of a transaction that isn't committed
+pub no_version_yet : (rows : Rows) (start : ℕ) (transaction : Transaction) → Transacts start transaction (traces start rows) → transaction.committed ≡ false →
+    (key : Key) → find (λ version. version.start == start) (rows key).versions ≡ None
+no_version_yet rows start transaction transacts not_yet key = by (transacts.undone not_yet)
   where
-    by : IsHeld (lock_at start transaction) (traces start rows) ⊎ IsLost (primary_of transaction) (lock_at start transaction) (traces start rows) → committed rows (primary_of transaction) start ≡ None
-    by (inl held) = ap (λ (t : Trace). option_map (λ v. v.commit) t.version) (held (primary_of transaction))
-    by (inr lost) = ap (λ (t : Trace). option_map (λ v. v.commit) t.version) lost.primary_gone
+    each : (traces start rows key ≡ lock_trace (lock_at start transaction key)) ⊎ (traces start rows key ≡ no_trace) → find (λ version. version.start == start) (rows key).versions ≡ None
+    each (inl locked) = ap (λ (t : Trace). t.version) locked
+    each (inr gone) = ap (λ (t : Trace). t.version) gone
+
+    by : IsHeld (lock_at start transaction) (traces start rows) ⊎ IsLost (primary_of transaction) (lock_at start transaction) (traces start rows) → find (λ version. version.start == start) (rows key).versions ≡ None
+    by (inl held) = each (inl (held key))
+    by (inr lost) = each (lost.each key)
+
+pub uncommitted : (rows : Rows) (start : ℕ) (transaction : Transaction) → Transacts start transaction (traces start rows) → transaction.committed ≡ false → committed rows (primary_of transaction) start ≡ None
+uncommitted rows start transaction transacts not_yet = ap (option_map (λ v. v.commit)) (no_version_yet rows start transaction transacts not_yet (primary_of transaction))
 
 pub prewrite_step : PrewriteStep
 prewrite_step rows actor others write order next allowed sound = sound_after _ rows after actor _ others (own_step rows after actor (with_next transaction) act) (each_holds _ (λ other. tt) others) sound
@@ -203,7 +229,7 @@ prewrite_step rows actor others write order next allowed sound = sound_after _ r
 -- ---- the commit of the primary's row
 
 reads_before : (start commit : ℕ) (before after : Rows) (reader : ℕ) (answers : List Answer) → StandsAtOnce start commit before after → reader < commit → Reads before reader answers → Reads after reader answers
-reads_before start commit before after reader answers at_once earlier reads answer held key covered = at_once.before key reader earlier ∙ reads answer held key covered
+reads_before start commit before after reader answers at_once earlier reads answer held key covered = ap (option_map (λ (put : Put). put.0)) (at_once.before key reader earlier) ∙ reads answer held key covered
 
 -- what the commit of the primary's row does
 pub record AtPrimary (rows : Rows) (start : ℕ) (transaction : Transaction) (write : Write) (commit : ℕ) : Type 0 where

@@ -1,18 +1,17 @@
 -- What an act leaves of other actors, and makes of its own.
-use Rattle.std.specs.Prelude.{◌≡◌, ◌≢◌, ◌⊎◌, ◌<◌, ◌≤◌, ℕ, true, false, List, length, Some, None}
+use Rattle.std.specs.Prelude.{◌≡◌, ◌≢◌, ◌⊎◌, ◌<◌, ◌≤◌, ℕ, true, false, List, [], length, Some, None}
+use Rattle.std.specs.Option.{option_map}
+use Rattle.pcj_table.specs.Table.{Key}
 use Rattle.pcj_table.specs.declared.lock.Lock.{Lock}
 use Rattle.pcj_table.specs.declared.write.Write.{Write}
-use Rattle.pcj_table.specs.Table.{Key}
-use Rattle.pcj_mvcc.specs.Acts.{lock_of}
-use Rattle.pcj_mvcc.specs.Reading.{Rows}
-use Rattle.std.specs.Option.{option_map}
-use Rattle.pcj_mvcc.specs.Reading.{SameReading, lock_up_to}
+use Rattle.pcj_mvcc.specs.Acts.{lock_of, version_of}
 use Rattle.pcj_mvcc.specs.Laws.{StandsAtOnce}
-use Rattle.pcj_mvcc.specs.Acts.{version_of}
-use Rattle.pcj_moves.specs.Traces.{Trace, Traces, traces, no_trace, lock_trace, version_trace, place}
-use Rattle.pcj_moves.specs.Transactions.{Transaction, primary_of, write_at, lock_at, Transacts, IsRipe, with_next, with_commit, as_committed, IsNext}
-use Rattle.pcj_moves.specs.Recoveries.{Recovery, Recovers}
-use Rattle.pcj_moves.specs.Reads.{Answer, Reads, IsHidden}
+use Rattle.pcj_mvcc.specs.Reading.{OnePrimary, Rows, SameReading, lock_up_to}
+use Rattle.pcj_moves.specs.Traces.{Trace, Traces, lock_trace, no_trace, place, traces, version_trace}
+use Rattle.pcj_moves.specs.declared.answer.Answer.{Answer}
+use Rattle.pcj_moves.specs.Transactions.{IsNext, IsRipe, Transaction, Transacts, as_committed, lock_at, primary_of, with_commit, with_next, write_at}
+use Rattle.pcj_moves.specs.Recoveries.{Recovers, Recovery}
+use Rattle.pcj_moves.specs.Reads.{IsHidden, Reads}
 use Rattle.pcj_moves.specs.TraceLaws.{ChangesTrace}
 
 -- ---- an actor of another start
@@ -70,6 +69,22 @@ RollBackGoesOn = (start : ℕ) (transaction : Transaction) (at : Traces) (key : 
 -- a lock of the transaction is that of its write
 abbrev pub LockIsOfWrite : Type 0
 LockIsOfWrite = (start : ℕ) (transaction : Transaction) (at : Traces) (key : Key) (lock : Lock) → Transacts start transaction at → (at key).lock ≡ Some lock → lock_at start transaction key ≡ Some lock
+
+-- a lock that stands on a row that it hasn't prewritten is another's
+abbrev pub MetIsOther : Type 0
+MetIsOther = (rows : Rows) (start : ℕ) (transaction : Transaction) (key : Key) (lock : Lock) → Transacts start transaction (traces start rows) → lock_at start transaction key ≡ None →
+    (rows key).lock ≡ Some lock → lock.start ≢ start
+
+-- as on the row of its next write, and on every row where it writes nothing
+abbrev pub NextIsFree : Type 0
+NextIsFree = (start : ℕ) (transaction : Transaction) (write : Write) → IsNext transaction write → lock_at start transaction write.key ≡ None
+
+abbrev pub NothingIsFree : Type 0
+NothingIsFree = (start : ℕ) (transaction : Transaction) (key : Key) → transaction.writes ≡ [] → lock_at start transaction key ≡ None
+
+-- so all its locks name its primary
+abbrev pub LocksNamePrimary : Type 0
+LocksNamePrimary = (rows : Rows) (start : ℕ) (transaction : Transaction) → Transacts start transaction (traces start rows) → OnePrimary rows (primary_of transaction) start
 
 -- where a lock is taken away
 abbrev pub RecoversUnlock : Type 0

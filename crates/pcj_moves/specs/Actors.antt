@@ -1,10 +1,11 @@
 -- Actors beside one another: what each holds, and what rows have to say of it.
-use Rattle.std.specs.Prelude.{◌≡◌, ◌≢◌, ◌<◌, ℕ, List, [], ◌∷◌, Option, Some, None, IfSome}
+use Rattle.std.specs.Prelude.{◌≡◌, ◌≢◌, ◌<◌, ℕ, List, [], ◌∷◌, ◌++◌, Option, Some, None, IfSome}
 use Rattle.pcj_mvcc.specs.Reading.{Rows}
 use Rattle.pcj_moves.specs.Traces.{traces}
+use Rattle.pcj_moves.specs.declared.answer.Answer.{Answer}
 use Rattle.pcj_moves.specs.Transactions.{Transaction, Transacts, new_transaction}
-use Rattle.pcj_moves.specs.Recoveries.{Recovery, Recovers, IsOfWrite}
-use Rattle.pcj_moves.specs.Reads.{Answer, Reads, IsHidden}
+use Rattle.pcj_moves.specs.Recoveries.{IsOfWrite, Recovers, Recovery}
+use Rattle.pcj_moves.specs.Reads.{IsHidden, Reads}
 
 -- Its start, what it has read then, its transaction, and the recovery of a lock that it met. One that only reads has a
 -- transaction without writes.
@@ -54,7 +55,7 @@ abbrev pub with_transaction : Actor → Transaction → Actor
 with_transaction actor transaction = record { start = actor.start; answers = actor.answers; transaction = transaction; recovery = actor.recovery }
 
 abbrev pub with_answer : Actor → Answer → Actor
-with_answer actor answer = record { start = actor.start; answers = answer ∷ actor.answers; transaction = actor.transaction; recovery = actor.recovery }
+with_answer actor answer = record { start = actor.start; answers = actor.answers ++ (answer ∷ []); transaction = actor.transaction; recovery = actor.recovery }
 
 abbrev pub with_recovery : Actor → Option Recovery → Actor
 with_recovery actor recovery = record { start = actor.start; answers = actor.answers; transaction = actor.transaction; recovery = recovery }

@@ -1,17 +1,18 @@
 -- What may be committed next, and what is read whichever of it is.
-use Rattle.std.specs.Prelude.{Bool, ◌≡◌, ◌≢◌, ◌⊎◌, ℕ, true, List, ◌∷◌, Some, None}
+use Rattle.std.specs.Prelude.{◌≡◌, ◌≢◌, ◌⊎◌, ℕ, Bool, true, List, ◌∷◌, Some, None}
+use Rattle.std.specs.List.{Contains}
+use Rattle.pcj_table.specs.Table.{Key}
 use Rattle.pcj_table.specs.declared.lock.Lock.{Lock}
 use Rattle.pcj_table.specs.declared.write.Write.{Write}
-use Rattle.pcj_table.specs.Table.{Key}
-use Rattle.pcj_mvcc.specs.Acts.{prewrite_act, roll_forward_act, commit_act}
-use Rattle.pcj_mvcc.specs.Reading.{Rows, acted, allows, committed}
-use Rattle.pcj_mvcc.specs.Times.{TimesInOrder, AllVersions}
-use Rattle.std.specs.List.{Contains}
+use Rattle.pcj_mvcc.specs.Acts.{commit_act, prewrite_act, roll_forward_act}
 use Rattle.pcj_mvcc.specs.Choices.{Choice, IsChoice, under}
+use Rattle.pcj_mvcc.specs.Reading.{Rows, acted, allows, committed}
+use Rattle.pcj_mvcc.specs.Times.{AllVersions, TimesInOrder}
 use Rattle.pcj_moves.specs.Traces.{traces}
-use Rattle.pcj_moves.specs.Transactions.{primary_of, IsRipe, with_next, with_commit, as_committed, IsNext}
-use Rattle.pcj_moves.specs.Reads.{Answer, Reads, IsHidden}
-use Rattle.pcj_moves.specs.Actors.{Actor, Each, AreSound, with_transaction}
+use Rattle.pcj_moves.specs.declared.answer.Answer.{Answer}
+use Rattle.pcj_moves.specs.Transactions.{IsNext, IsRipe, as_committed, primary_of, with_commit, with_next}
+use Rattle.pcj_moves.specs.Reads.{IsHidden, Reads}
+use Rattle.pcj_moves.specs.Actors.{Actor, AreSound, Each, with_transaction}
 use Rattle.pcj_moves.specs.StepLaws.{Unlocks}
 
 -- ---- the transactions that may be committed next

@@ -8,11 +8,12 @@ use Rattle.pcj_table.specs.declared.plain.Plain.{Plain}
 use Rattle.pcj_table.specs.declared.update.Update.TheVariants.{SetPlain}
 use Rattle.pcj_table.specs.declared.write.Write.{Write}
 use Rattle.pcj_mvcc.specs.Acts.{commit_act, prewrite_act, roll_back_act, roll_forward_act}
-use Rattle.pcj_mvcc.specs.Reading.{OnePrimary, Rows, acted, allows, put}
+use Rattle.pcj_mvcc.specs.Reading.{OnePrimary, Rows, acted, allows, committed, put}
 use Rattle.pcj_mvcc.specs.Times.{AllVersions, TimesInOrder}
+use Rattle.pcj_moves.specs.declared.answer.Answer.{Answer}
 use Rattle.pcj_moves.specs.Transactions.{are_distinct, as_committed, new_transaction, primary_of, with_commit, with_next}
 use Rattle.pcj_moves.specs.Recoveries.{Recovery, new_recovery, told, with_known}
-use Rattle.pcj_moves.specs.Reads.{Answer, IsRead}
+use Rattle.pcj_moves.specs.Reads.{IsRead}
 use Rattle.pcj_moves.specs.Actors.{Actor, AreSound, Each, IsOlder, new_actor, with_answer, with_recovery, with_transaction}
 
 -- ---- the moves of an actor
@@ -130,6 +131,12 @@ IsAllowed (RollForward recovery commit) number rows actor =
 IsAllowed EndRecovery number rows actor = Unit {0}
 IsAllowed (WritePlain key plain) number rows actor = Unit {0}
 
+-- moves of one actor, one after the other, with what they make of the oracle's next number, the rows and the actor
+abbrev pub Makes : List Move → ℕ → Rows → Actor → ℕ → Rows → Actor → Type 0
+Makes [] number rows actor number' rows' actor' = (number' ≡ number) × (rows' ≡ rows) × (actor' ≡ actor)
+Makes (move ∷ moves) number rows actor number' rows' actor' =
+    IsAllowed move number rows actor × Makes moves (number_after move number) (rows_after move actor rows) (actor_after move rows actor) number' rows' actor'
+
 -- ---- runs
 
 -- the oracle's next number, the rows of the table, and the actors
@@ -138,11 +145,13 @@ pub record State : Type 0 where
   pub rows : Rows
   pub actors : List Actor
 
--- one of the actors makes a move, one begins with a number that the oracle grants, or one ends, wherever it is
+-- One of the actors makes a move, one begins with a number that the oracle grants, or one ends, wherever it is; or some
+-- numbers are lost with an oracle.
 pub data Step : Type 0 where
   Moves : (front : List Actor) (actor : Actor) (back : List Actor) (move : Move) → Step
   Begins : (start : ℕ) → Step
   Ends : (front : List Actor) (actor : Actor) (back : List Actor) → Step
+  Loses : (number : ℕ) → Step
 
 abbrev pub after_move : State → List Actor → Actor → List Actor → Move → State
 after_move state front actor back move = record {
@@ -158,6 +167,7 @@ Happens before (Begins start) after =
     (before.number ≤ start) × (after ≡ record { number = suc start; rows = before.rows; actors = new_actor start ∷ before.actors })
 Happens before (Ends front actor back) after =
     (before.actors ≡ front ++ (actor ∷ back)) × (after ≡ record { number = before.number; rows = before.rows; actors = front ++ back })
+Happens before (Loses number) after = (before.number ≤ number) × (after ≡ record { number = number; rows = before.rows; actors = before.actors })
 
 -- steps of any actors, one after the other
 abbrev pub Runs : State → List Step → State → Type 0
@@ -169,6 +179,13 @@ Runs before (step ∷ steps) after = (between : State) × Happens before step be
 -- All locks of one start name one primary.
 abbrev pub LocksNameOne : Rows → Type 0
 LocksNameOne rows = (key : Key) (lock : Lock) → (rows key).lock ≡ Some lock → OnePrimary rows lock.primary lock.start
+
+abbrev pub is_once : ℕ → ℕ → ℕ → ℕ → Bool
+is_once start commit first last = not (first == start) || last == commit
+
+-- All versions of one start have one commit, that of the first of them in any row.
+abbrev pub StartsCommitOnce : Rows → Type 0
+StartsCommitOnce rows = (key : Key) (start commit : ℕ) → committed rows key start ≡ Some commit → AllVersions (λ version. is_once start commit version.start version.commit) rows
 
 -- each start and commit in the rows is below a number
 pub record AreBelow (number : ℕ) (rows : Rows) : Type 0 where
@@ -189,6 +206,7 @@ pub record NumbersAreOwn (rows : Rows) (actor : Actor) : Type 0 where
 pub record IsConsistent (state : State) : Type 0 where
   pub times : TimesInOrder state.rows
   pub named : LocksNameOne state.rows
+  pub once : StartsCommitOnce state.rows
   pub below : AreBelow state.number state.rows
   pub sound : AreSound state.rows state.actors
   pub older : Each (IsOlder state.number) state.actors

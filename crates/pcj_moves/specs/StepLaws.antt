@@ -7,9 +7,10 @@ use Rattle.pcj_mvcc.specs.Acts.{commit_act, prewrite_act, roll_back_act, roll_fo
 use Rattle.pcj_mvcc.specs.Reading.{OnePrimary, OnlyLock, Rows, SameReading, acted, allows, committed}
 use Rattle.pcj_mvcc.specs.Times.{TimesInOrder}
 use Rattle.pcj_moves.specs.Traces.{Trace, lock_trace, no_trace, place, traces}
+use Rattle.pcj_moves.specs.declared.answer.Answer.{Answer}
 use Rattle.pcj_moves.specs.Transactions.{IsNext, Transaction, Transacts, are_distinct, as_committed, new_transaction, primary_of, with_commit, with_next, write_at}
 use Rattle.pcj_moves.specs.Recoveries.{Recovers, Recovery, new_recovery, told, with_known}
-use Rattle.pcj_moves.specs.Reads.{Answer, IsRead}
+use Rattle.pcj_moves.specs.Reads.{IsRead}
 use Rattle.pcj_moves.specs.Actors.{Actor, AreSound, Each, IsBelow, IsOlder, new_actor, with_answer, with_recovery, with_transaction}
 use Rattle.pcj_moves.specs.TraceLaws.{ChangesTrace, Stays}
 
@@ -80,6 +81,10 @@ RecoveryDropsPrimary = (rows : Rows) (recovery : Recovery) → TimesInOrder rows
 abbrev pub RecoveryRollsForward : Type 0
 RecoveryRollsForward = (rows : Rows) (recovery : Recovery) (commit : ℕ) → TimesInOrder rows → Recovers recovery (traces recovery.lock.start rows) → recovery.known ≡ Some (Some commit) →
     allows (roll_forward_act recovery.lock commit) (rows recovery.key) ≡ true → Unlocks recovery.lock.start rows (acted rows recovery.key (roll_forward_act recovery.lock commit))
+
+-- and which tells that its transaction is never committed
+abbrev pub DropTells : Type 0
+DropTells = (rows : Rows) (key : Key) (start : ℕ) → TimesInOrder rows → allows (roll_back_act start) (rows key) ≡ true → told start (acted rows key (roll_back_act start) key) ≡ Some None
 
 -- ---- steps that change no row of a transaction
 

@@ -11,6 +11,7 @@
 #![tactic(auto)]
 
 mod actors;
+mod answer;
 mod choices;
 mod moves;
 mod reads;
@@ -21,8 +22,10 @@ mod traces;
 mod writes;
 
 pub use actors::{
-    acts_leave_others, acts_leave_recoveries, acts_take_transactions_on, writes_stay_hidden,
+    acts_leave_others, acts_leave_recoveries, acts_take_transactions_on, met_locks_are_of_others,
+    writes_stay_hidden,
 };
+pub use answer::Answer;
 pub use choices::{reads_stand_under_choices, ripe_transactions_were_ripe};
 pub use moves::{actors_have_no_order, moves_keep_consistency};
 pub use reads::{reads_meet_no_lock, reads_stay_true};

@@ -1,4 +1,4 @@
-ghost use Rattle.pcj_moves.specs.MoveLaws.{ActorComesFirst, ActorGoesBack, EmptyIsConsistent, MoveIsConsistent, StepIsConsistent, RunIsConsistent};
+ghost use Rattle.pcj_moves.specs.MoveLaws.{ActorComesFirst, ActorGoesBack, EmptyIsConsistent, MoveIsConsistent, MovesAreConsistent, HigherIsConsistent, StepIsConsistent, RunIsConsistent};
 
 /// Nothing that is said of actors depends on their order.
 pub fn actors_have_no_order()
@@ -10,6 +10,8 @@ pub fn actors_have_no_order()
 pub fn moves_keep_consistency()
     ensures empty { EmptyIsConsistent }
     ensures move_of_one { MoveIsConsistent }
+    ensures moves { MovesAreConsistent }
+    ensures higher { HigherIsConsistent }
     ensures step { StepIsConsistent }
     ensures run { RunIsConsistent }
 {}

@@ -1,4 +1,4 @@
-ghost use Rattle.pcj_moves.specs.StepLaws.{RollBackUnlocks, RollForwardUnlocks, SecondaryUnlocks, UnlockStep, PrewriteStep, PrimaryStep, EmptyStep, RecoveryRollsBack, RecoveryDropsPrimary, RecoveryRollsForward, StayStep, DrawStep, AnswerStep, RecoveryStep, RecoveryBegins, RecoveryLearns, BeginStep, WritesStep};
+ghost use Rattle.pcj_moves.specs.StepLaws.{RollBackUnlocks, RollForwardUnlocks, SecondaryUnlocks, UnlockStep, PrewriteStep, PrimaryStep, EmptyStep, RecoveryRollsBack, RecoveryDropsPrimary, RecoveryRollsForward, StayStep, DrawStep, AnswerStep, RecoveryStep, RecoveryBegins, RecoveryLearns, DropTells, BeginStep, WritesStep};
 
 /// A roll back, a roll forward and the commit of a row that isn't the primary's take a lock away and change no
 /// reading.
@@ -27,6 +27,7 @@ pub fn actors_go_on()
     ensures recovery { RecoveryStep }
     ensures begins { RecoveryBegins }
     ensures learns { RecoveryLearns }
+    ensures drop { DropTells }
 {}
 
 /// An actor begins, and gets its writes.

@@ -1,8 +1,12 @@
 use Rattle.pcj_moves.proofs.OwnLemmas.{lock_is_of_write, prewrite_goes_on, draw_goes_on, primary_goes_on, secondary_goes_on, roll_back_goes_on, roll_forward_goes_on}
+use Rattle.pcj_moves.proofs.StepLemmas.{names_one}
 use Rattle.pcj_moves.proofs.actors.acts_take_transactions_on.Goals as goal
 
 pub returns-clause-lock : goal.returns-clause-lock
 returns-clause-lock c = lock_is_of_write
+
+pub returns-clause-names : goal.returns-clause-names
+returns-clause-names c = names_one
 
 pub returns-clause-prewrite : goal.returns-clause-prewrite
 returns-clause-prewrite c = prewrite_goes_on

@@ -1,4 +1,4 @@
-use Rattle.pcj_moves.proofs.ReadLemmas.{answer_stays_read, nothing_stays_read, held_stays_read, move_leaves_read, run_leaves_read}
+use Rattle.pcj_moves.proofs.ReadLemmas.{answer_stays_read, nothing_stays_read, held_stays_read, move_leaves_read, moves_leave_read, run_leaves_read}
 use Rattle.pcj_moves.proofs.reads.reads_stay_true.Goals as goal
 
 pub returns-clause-answer : goal.returns-clause-answer
@@ -12,6 +12,9 @@ returns-clause-held c = held_stays_read
 
 pub returns-clause-move_of_one : goal.returns-clause-move_of_one
 returns-clause-move_of_one c = move_leaves_read
+
+pub returns-clause-moves : goal.returns-clause-moves
+returns-clause-moves c = moves_leave_read
 
 pub returns-clause-run : goal.returns-clause-run
 returns-clause-run c = run_leaves_read

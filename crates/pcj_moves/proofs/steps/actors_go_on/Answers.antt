@@ -1,4 +1,4 @@
-use Rattle.pcj_moves.proofs.GoOnLemmas.{draw_step, empty_step, answer_step, recovery_step, recovery_begins, recovery_learns}
+use Rattle.pcj_moves.proofs.GoOnLemmas.{draw_step, empty_step, answer_step, recovery_step, recovery_begins, recovery_learns, drop_tells}
 use Rattle.pcj_moves.proofs.steps.actors_go_on.Goals as goal
 
 pub returns-clause-draw : goal.returns-clause-draw
@@ -18,3 +18,6 @@ returns-clause-begins c = recovery_begins
 
 pub returns-clause-learns : goal.returns-clause-learns
 returns-clause-learns c = recovery_learns
+
+pub returns-clause-drop : goal.returns-clause-drop
+returns-clause-drop c = drop_tells
