@@ -83,3 +83,9 @@ Decides ReadPrimary old rows event new = (new ≡ with_primary old Locked) ⊎ (
 Decides DropPrimary old rows event new = new ≡ with_primary old (primary_of (commit_in rows old))
 Decides (RollForward commit) old rows event new = event ≡ event_of (Some commit)
 Decides RollBack old rows event new = event ≡ event_of None
+
+-- ---- what stays
+
+-- no plain value is changed, and so neither is the clock's number
+abbrev pub KeepPlain : Table → Table → Type 0
+KeepPlain old new = (key : Key) → (row_at new key).plain ≡ (row_at old key).plain

@@ -4,7 +4,7 @@ ghost use Rattle.pcj_table.specs.Table.{row_at};
 ghost use Rattle.pcj_mvcc.specs.Times.{TimesInOrder};
 ghost use Rattle.pcj_recover.specs.declared.event.RecoveryEvent.TheVariants.{Working};
 ghost use Rattle.pcj_recover.specs.Progress.{new_progress, DropOwn, ReadPrimary, DropPrimary, RollForward, RollBack, due, steps_left};
-ghost use Rattle.pcj_recover.specs.Steps.{Steps, Decides};
+ghost use Rattle.pcj_recover.specs.Steps.{Steps, Decides, KeepPlain};
 
 use crate::RecoveryEvent;
 use crate::primary::{Primary, drop_primary, read_primary};
@@ -56,6 +56,7 @@ impl Recovery {
         ensures fewer { IfOk result (λ event. event ≡ Working → steps_left self.new < steps_left self.old) }
         ensures same { OnErr result (self.new ≡ self.old) }
         ensures err { OnErr result (T.rows table.new ≡ T.rows table.old) }
+        ensures plain { KeepPlain (T.rows table.old) (T.rows table.new) }
 
         // When each error comes, and the calls of the table.
         ensures cause { HasTableCause (T.failures table.old) (T.failures table.new) result }

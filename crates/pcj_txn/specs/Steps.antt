@@ -1,6 +1,6 @@
 -- What each event of a transaction tells of the rows that it met, and what it leaves (Percolator, OSDI 2010, section
 -- 2.2).
-use Rattle.std.specs.Prelude.{◌≡◌, ◌⊎◌, ℕ, true, false, nat_le, List, filter, Option, Some, None}
+use Rattle.std.specs.Prelude.{◌≡◌, ◌⊎◌, ℕ, Bool, true, false, nat_le, List, filter, Option, Some, None}
 use Rattle.std.specs.Option.{option_map}
 use Rattle.pcj_table.specs.declared.lock.Lock.{Lock}
 use Rattle.pcj_table.specs.declared.version.Version.{Version}
@@ -9,6 +9,7 @@ use Rattle.pcj_table.specs.declared.write.Write.{Write}
 use Rattle.pcj_table.specs.Row.{newest, is_locked_at}
 use Rattle.pcj_table.specs.Table.{Key, Table, row_at}
 use Rattle.pcj_oracle.specs.declared.block.Block.{Block}
+use Rattle.pcj_oracle.specs.Clock.{next_number}
 use Rattle.pcj_oracle.specs.Draw.{IsNumber, Grants}
 use Rattle.pcj_mvcc.specs.declared.act.Act.{Act}
 use Rattle.pcj_mvcc.specs.Acts.{prewrite_act, commit_act}
@@ -16,7 +17,7 @@ use Rattle.pcj_mvcc.specs.Reading.{acted, allows}
 use Rattle.pcj_moves.specs.Transactions.{primary_of}
 use Rattle.pcj_txn.specs.declared.event.TxnEvent.{TxnEvent}
 use Rattle.pcj_txn.specs.declared.event.TxnEvent.TheVariants as event
-use Rattle.pcj_txn.specs.Progress.{Progress, Prewrite, Draw, CommitPrimary, CommitNone, CommitSecondary, End, due, one_prewritten, commit_drawn, none_committed, primary_committed, one_settled}
+use Rattle.pcj_txn.specs.Progress.{Progress, Due, Prewrite, Draw, CommitPrimary, CommitNone, CommitSecondary, End, due, one_prewritten, commit_drawn, none_committed, primary_committed, one_settled}
 
 abbrev pub versions_from : ℕ → List Version → List Version
 versions_from at versions = filter (λ version. nat_le at version.commit) versions
@@ -32,6 +33,28 @@ prewrite_of progress write = prewrite_act write progress.start (primary_of progr
 -- the commit of a row
 abbrev pub commit_of : Progress → Write → ℕ → Act
 commit_of progress write commit = commit_act write progress.start commit
+
+-- ---- which event a due step comes to
+
+-- by the lock of the row, and the commit of its newest version of the start or later
+abbrev pub prewrite_event : Key → Option Lock → Option ℕ → TxnEvent
+prewrite_event key (Some lock) later = event.MetLock key lock
+prewrite_event key None (Some commit) = event.Conflict key commit
+prewrite_event key None None = event.Prewrote
+
+-- by whether the primary's row has the lock of the start
+abbrev pub primary_event : ℕ → Row → Bool → TxnEvent
+primary_event commit row true = event.Committed commit
+primary_event commit row false = event.PrimaryLost row
+
+-- of each due step, by the start and by what is met
+abbrev pub due_event : Due → ℕ → Option Block → Table → TxnEvent
+due_event (Prewrite write) start oracle table = prewrite_event write.key (row_at table write.key).lock (newest_from start (row_at table write.key).versions)
+due_event Draw start oracle table = event.DrewCommit (next_number oracle table)
+due_event (CommitPrimary write commit) start oracle table = primary_event commit (row_at table write.key) (is_locked_at start (row_at table write.key).lock)
+due_event (CommitNone commit) start oracle table = event.Committed commit
+due_event (CommitSecondary write commit) start oracle table = event.SecondaryDone
+due_event End start oracle table = event.Done
 
 -- ---- what each event says
 
@@ -110,7 +133,7 @@ pub record Stays (old : Progress) (table : Table) (new : Progress) (table' : Tab
   pub progress : new ≡ old
   pub rows : table' ≡ table
 
--- A step by what it tells. Of the events that a due step may come to, the row that it meets allows exactly one.
+-- A step by what it tells.
 abbrev pub Steps : Progress → Option Block → Table → TxnEvent → Progress → Option Block → Table → Type 0
 Steps old oracle table event.Prewrote new oracle' table' = Prewrites old table new table' × (oracle' ≡ oracle)
 Steps old oracle table (event.MetLock key lock) new oracle' table' = MeetsLock old table key lock × Stays old table new table' × (oracle' ≡ oracle)
@@ -122,3 +145,10 @@ Steps old oracle table (event.PrimaryLost row) new oracle' table' = LosesPrimary
 Steps old oracle table event.SecondaryDone new oracle' table' =
     (Settles old table table' ⊎ IsSettled old table table') × (new ≡ one_settled old) × (oracle' ≡ oracle)
 Steps old oracle table event.Done new oracle' table' = (due old ≡ End) × Stays old table new table' × (oracle' ≡ oracle)
+
+-- ---- the law
+
+-- Each step tells the one event that what is due and what it meets allow.
+abbrev pub OneEvent : Type 0
+OneEvent = (old : Progress) (oracle : Option Block) (table : Table) (told : TxnEvent) (new : Progress) (oracle' : Option Block) (table' : Table) →
+    Steps old oracle table told new oracle' table' → told ≡ due_event (due old) old.start oracle table

@@ -7,10 +7,12 @@
 
 mod error;
 mod event;
+mod law;
 mod refusal;
 mod row;
 mod txn;
 
 pub use error::TxnError;
 pub use event::TxnEvent;
+pub use law::one_event_is_right;
 pub use txn::Txn;

@@ -1,5 +1,6 @@
 use Rattle.std.proofs.Common.{refl, sym, subst}
-use Rattle.pcj_txn.proofs.Numbers.{KeepsPlain, number_stays}
+use Rattle.pcj_mvcc.proofs.Laws.{KeepsPlain}
+use Rattle.pcj_txn.proofs.Numbers.{number_stays}
 use Rattle.pcj_txn.proofs.row.unlock_row.Goals as goal
 
 pub returns-clause-number : goal.returns-clause-number
