@@ -1,0 +1,3 @@
+pub mod TxnLemmas
+pub mod RecoveryLemmas
+pub mod ReadLemmas
