@@ -2,8 +2,9 @@
 //!
 //! Its first argument names a measure. It makes what the measure works on, or reads a document on standard input,
 //! works on it again and again, and writes how many bytes a second that took, or, of a table of rows, how long a
-//! call took at each number of rows, or, of loads, how many triples a second were loaded. Nothing here is promised:
-//! what is proved is that each call meets its conditions, and that the program ends. The scripts in `bench/` run it.
+//! call took at each number of rows, or, of loads, how many triples a second were loaded, or, of transactions, how long
+//! a step took at each number of writes. Nothing here is promised: what is proved is that each call meets its
+//! conditions, and that the program ends. The scripts in `bench/` run it.
 #![tactic(auto)]
 
 mod document;
@@ -16,6 +17,7 @@ mod rate;
 mod read;
 mod row_table;
 mod split;
+mod steps;
 
 use document::measure_document;
 use failure::Failure;
@@ -28,6 +30,7 @@ use split::measure_split;
 use std::alloc::Global;
 use std::env;
 use std::fmt::Display;
+use steps::measure_steps;
 
 fn main(rt: HostRuntime) -> Result<(), Failure> {
     let name = env::args(&rt)?.nth(1);
@@ -45,9 +48,10 @@ fn measure(rt: &HostRuntime, name: Option<&str>) -> Result<(), Failure> {
         Some("read_document") => show(rt, measure_document(rt, alloc, rt.stdin())?),
         Some("row_table") => show_row_table(rt, alloc),
         Some("loads") => show_loads(rt, alloc),
+        Some("steps") => show_steps(rt, alloc),
         _ => show(
             rt,
-            "usage: pcj_bench print_term|read_term|join_parts|split_parts|read_document|row_table|loads",
+            "usage: pcj_bench print_term|read_term|join_parts|split_parts|read_document|row_table|loads|steps",
         ),
     }
 }
@@ -62,6 +66,13 @@ fn show_row_table(rt: &HostRuntime, alloc: Global) -> Result<(), Failure> {
 fn show_loads(rt: &HostRuntime, alloc: Global) -> Result<(), Failure> {
     for triples in [1_000, 10_000, 50_000] {
         show(rt, measure_loads(rt, alloc, triples)?)?;
+    }
+    Ok(())
+}
+
+fn show_steps(rt: &HostRuntime, alloc: Global) -> Result<(), Failure> {
+    for writes in [1, 10, 100, 1_000, 10_000] {
+        show(rt, measure_steps(rt, alloc, writes)?)?;
     }
     Ok(())
 }

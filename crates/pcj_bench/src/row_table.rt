@@ -130,7 +130,7 @@ fn key_after<T: RowTable>(alloc: Global, table: &mut T, after: &[u8]) -> Result<
 
 /// The last step of the generator SplitMix64 (Steele, Lea and Flood, 2014), which maps distinct numbers to
 /// distinct ones in no order.
-fn scattered(number: u64) -> u64 {
+pub(crate) fn scattered(number: u64) -> u64 {
     let once = (number ^ (number >> 30)).wrapping_mul(0xbf58_476d_1ce4_e5b9);
     let twice = (once ^ (once >> 27)).wrapping_mul(0x94d0_49bb_1331_11eb);
     twice ^ (twice >> 31)
