@@ -1,6 +1,8 @@
 use crate::answer::Answer;
 use crate::unanswered::Unanswered;
-use crate::{act, bytes, document, items, key, name, range, row, term, text, token, transcript};
+use crate::{
+    act, bytes, document, grammar, items, key, name, range, row, term, text, token, transcript,
+};
 use pcj_term::Bytes;
 use std::alloc::Global;
 
@@ -64,6 +66,7 @@ fn reading(
 ) -> Result<(), Unanswered> {
     match call {
         "read_document" => document::read_case(alloc, out, arguments),
+        "read_grammar" => grammar::read_case(alloc, out, arguments),
         "read_key" => name::read_case(alloc, out, arguments),
         "read_long" => document::read_long_case(alloc, out, arguments),
         "read_many" => document::read_many_case(alloc, out, arguments),

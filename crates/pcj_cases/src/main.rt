@@ -16,6 +16,7 @@ mod bytes;
 mod call;
 mod document;
 mod field;
+mod grammar;
 mod items;
 mod key;
 mod name;

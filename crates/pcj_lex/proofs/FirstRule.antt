@@ -119,15 +119,29 @@ begins_apart characters k w s b (inr open_one) =
 pub begins_none : (k : TokenKind) (w s : List ℕ) → Begins [] k w s → ⊥
 begins_none k w s b = first_of_none token_rules b.rule w s b.first
 
--- what is begun, by the rule that is found
-abbrev pub IsBegun : List ℕ → Option (Rule × List ℕ) → Type 0
-IsBegun characters None = StartsNone characters
-IsBegun characters (Some found) = (written : List ℕ) × (characters ≡ written ++ found.1) × ((k : TokenKind) → kind_of found.0 ≡ Some k → Begins characters k written found.1) × (kind_of found.0 ≡ None → StartsNone characters)
-
 front_of : (rules : List Rule) (characters : List ℕ) (r : Rule) (w s : List ℕ) → IsFirst rules characters r w s → characters ≡ w ++ s
 front_of [] characters r w s f = absurd f
 front_of (rule ∷ rules) characters r w s (inl f) = let fits = f.1 in fits.whole
 front_of (rule ∷ rules) characters r w s (inr f) = front_of rules characters r w s f.1
+
+some_written : (rules : List Rule) (characters : List ℕ) (r : Rule) (w s : List ℕ) → IsFirst rules characters r w s → w ≡ [] → ⊥
+some_written [] characters r w s f none = f
+some_written (rule ∷ rules) characters r w s (inl f) none =
+    let fits = f.1 in
+    let here : has_form rule [] ≡ true = subst (λ (t : List ℕ). has_form rule t ≡ true) none (fits.longest).0 in
+    let no = form_accepts rule [] ∙ no_form_empty rule in absurd cc
+some_written (rule ∷ rules) characters r w s (inr f) none = some_written rules characters r w s f.1 none
+
+pub begins_some : (characters : List ℕ) (k : TokenKind) (w s : List ℕ) → Begins characters k w s → w ≡ [] → ⊥
+begins_some characters k w s b none = some_written token_rules characters b.rule w s b.first none
+
+pub begins_whole : (characters : List ℕ) (k : TokenKind) (w s : List ℕ) → Begins characters k w s → characters ≡ w ++ s
+begins_whole characters k w s b = front_of token_rules characters b.rule w s b.first
+
+-- what is begun, by the rule that is found
+abbrev pub IsBegun : List ℕ → Option (Rule × List ℕ) → Type 0
+IsBegun characters None = StartsNone characters
+IsBegun characters (Some found) = (written : List ℕ) × (characters ≡ written ++ found.1) × ((k : TokenKind) → kind_of found.0 ≡ Some k → Begins characters k written found.1) × (kind_of found.0 ≡ None → StartsNone characters)
 
 begun_by : (characters : List ℕ) (o : Option (Rule × List ℕ)) → IsFound token_rules characters o → IsBegun characters o
 begun_by characters None none = inl none

@@ -1,20 +1,20 @@
 -- Places of tokens: what leads to them, and that there is one of each.
-use Rattle.std.proofs.Common.{◌≡◌, ℕ, ◌+◌, ◌-◌, ◌≤◌, false, List, [], ◌∷◌, ◌++◌, length, take, drop, Option, Some, None, refl, ap, sym, subst, ◌∙◌, inl, inr, ◌⊎◌, arith, chars, encode_utf8_all, length-append, length-drop}
+use Rattle.std.proofs.Common.{◌≡◌, ℕ, ◌+◌, ◌-◌, ◌≤◌, false, List, [], ◌∷◌, ◌++◌, length, take, drop, Option, Some, None, refl, ap, sym, subst, ◌∙◌, inl, inr, ◌⊎◌, arith, chars, encode_utf8_all, length-append, length-drop, true, ◌<◌, drop-drop}
 use Rattle.std.specs.Char.{encode_utf8}
-use Rattle.std.specs.Str.{IsUtf8}
-use Rattle.std.proofs.lemmas.Str.{encodes-append, encodes-chars, length-encode, len_utf8_bounds}
-use Rattle.std.proofs.Math.Seq.{take-append_seam}
+use Rattle.std.specs.Str.{IsUtf8, all_scalars}
+use Rattle.std.proofs.lemmas.Str.{encodes-append, encodes-chars, length-encode, len_utf8_bounds, length-le-encodes, scalars-chars}
+use Rattle.std.proofs.Math.Seq.{take-append_seam, drop-append_seam, drop-append-add}
 use Rattle.pcj_ntriples.specs.Term.{IsLongest}
-use Rattle.pcj_ntriples.proofs.Names.{longest_same}
+use Rattle.pcj_ntriples.proofs.Names.{longest_same, scalars_parts}
 use Rattle.pcj_lex.specs.declared.rule.Rule.{Rule}
 use Rattle.pcj_lex.specs.declared.state.State.TheVariants as states
 use Rattle.pcj_lex.specs.declared.token.TokenKind.{TokenKind}
 use Rattle.pcj_lex.specs.Rules.{kind_of, is_gap, token_rules, Begins, StartsNone}
 use Rattle.pcj_lex.specs.Reading.{after_longest, or_all, after_gap, first_of}
-use Rattle.pcj_lex.specs.Token.{Leads, IsNext, IsLast, IsNoToken, SaysOneToken, HasOneFault, IsNotBoth, IsNotAfterAll, IsEither}
+use Rattle.pcj_lex.specs.Token.{Leads, ReadsOn, IsNext, IsLast, IsNoToken, SaysOneToken, HasOneFault, IsNotBoth, IsNotAfterAll, IsEither}
 use Rattle.pcj_lex.proofs.Forms.{gap_accepts}
 use Rattle.pcj_lex.proofs.Longest.{IsLeft, left_of}
-use Rattle.pcj_lex.proofs.FirstRule.{IsBegun, begun_of, begins_same, begins_apart, begins_none}
+use Rattle.pcj_lex.proofs.FirstRule.{IsBegun, begun_of, begins_same, begins_apart, begins_none, begins_some, begins_whole}
 
 -- blanks and comments, and what follows them
 abbrev pub IsSkipped : List ℕ → List ℕ → Type 0
@@ -152,3 +152,40 @@ next_is text from characters bytes left source rest rule o kind t b e cut is som
   begins = b.2 kind (sym is ∙ some);
   spelled = cut ∙ ap (λ (l : List ℕ). take (length bytes - length l) bytes) e ∙ cut_source bytes characters b.0 rest t.spelled b.1;
 }
+
+-- ---- behind a token
+
+three_parts : (text gap written rest : List ℕ) → IsUtf8 text → chars text ≡ gap ++ (written ++ rest) → text ≡ encode_utf8_all gap ++ (encode_utf8_all written ++ encode_utf8_all rest)
+three_parts text gap written rest is e = whole_bytes text gap (written ++ rest) is e ∙ ap (λ (b : List ℕ). encode_utf8_all gap ++ b) (encodes-append written rest)
+
+rest_readable : (text gap written rest : List ℕ) → IsUtf8 text → chars text ≡ gap ++ (written ++ rest) → IsUtf8 (encode_utf8_all rest)
+rest_readable text gap written rest is e =
+    let all : all_scalars (gap ++ (written ++ rest)) ≡ true = subst (λ (t : List ℕ). all_scalars t ≡ true) e (scalars-chars text is) in
+    let later = (scalars_parts gap (written ++ rest) all).1 in
+    (rest, ((scalars_parts written rest later).1, refl))
+
+drop_two : (left a b c : List ℕ) → left ≡ a ++ (b ++ c) → drop (length a + length b) left ≡ c
+drop_two left a b c e =
+    ap (drop (length a + length b)) e ∙ drop-append-add a (b ++ c) (length b) ∙ drop-append_seam b c
+
+some_bytes : (written : List ℕ) → (written ≡ [] → ⊥) → 0 < length (encode_utf8_all written)
+some_bytes [] some = absurd (some refl)
+some_bytes (c ∷ written) some = let enough = length-le-encodes (c ∷ written) in omega (arith, enough)
+
+pub reads_on : (text : List ℕ) (from : ℕ) (kind : TokenKind) (at : ℕ) (source : List ℕ) → from ≤ length text → IsUtf8 (drop from text) → IsNext text from kind at source → ReadsOn text from (at + length source)
+reads_on text from kind at source within is n =
+    let l = n.leads in
+    let whole = begins_whole n.characters kind n.written n.rest n.begins in
+    let cut : chars (drop from text) ≡ l.gap ++ (n.written ++ n.rest) = l.whole ∙ ap (λ (t : List ℕ). l.gap ++ t) whole in
+    let parts = three_parts (drop from text) l.gap n.written n.rest is cut in
+    let counts = ap length parts in
+    let some = some_bytes n.written (begins_some n.characters kind n.written n.rest n.begins) in
+    let size = ap length n.spelled in
+    let behind : at + length source ≡ from + (length (encode_utf8_all l.gap) + length (encode_utf8_all n.written)) = omega (arith, l.place, size) in
+    let rest : drop (at + length source) text ≡ encode_utf8_all n.rest =
+    ap (λ (i : ℕ). drop i text) behind ∙ sym (drop-drop (length (encode_utf8_all l.gap) + length (encode_utf8_all n.written)) from text) ∙ drop_two (drop from text) (encode_utf8_all l.gap) (encode_utf8_all n.written) (encode_utf8_all n.rest) parts in
+    record {
+      further = omega (arith, l.place, size, some);
+      within = omega (arith, l.place, size, counts, length-append (encode_utf8_all l.gap) (encode_utf8_all n.written ++ encode_utf8_all n.rest), length-append (encode_utf8_all n.written) (encode_utf8_all n.rest), length-drop from text, within);
+      readable = subst IsUtf8 (sym rest) (rest_readable (drop from text) l.gap n.written n.rest is cut);
+    }

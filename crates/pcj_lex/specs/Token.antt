@@ -1,5 +1,6 @@
 -- The token that follows a place of a text (SPARQL 1.1 Query, section 19.8).
-use Rattle.std.specs.Prelude.{◌≡◌, ℕ, ◌+◌, false, List, [], ◌∷◌, ◌++◌, length, drop, ◌⊎◌, chars, encode_utf8_all}
+use Rattle.std.specs.Prelude.{◌≡◌, ℕ, ◌+◌, ◌<◌, ◌≤◌, false, List, [], ◌∷◌, ◌++◌, length, drop, ◌⊎◌, chars, encode_utf8_all}
+use Rattle.std.specs.Str.{IsUtf8}
 use Rattle.pcj_ntriples.specs.Term.{IsLongest}
 use Rattle.pcj_lex.specs.declared.token.TokenKind.{TokenKind}
 use Rattle.pcj_lex.specs.declared.token.LexRefusal.{LexRefusal}
@@ -32,6 +33,12 @@ IsNoToken text from at = (first : ℕ) × (more : List ℕ) × Leads text from a
 
 abbrev pub Refuses : List ℕ → ℕ → LexRefusal → Type 0
 Refuses text from (At at) = IsNoToken text from at
+
+-- The place is further on, and the text can be read on from there.
+pub record ReadsOn (text : List ℕ) (from to : ℕ) : Type 0 where
+  pub further : from < to
+  pub within : to ≤ length text
+  pub readable : IsUtf8 (drop to text)
 
 -- ---- what holds of each place of each text
 

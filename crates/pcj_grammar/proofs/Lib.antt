@@ -1,0 +1,5 @@
+pub mod Steps
+pub mod Clauses
+pub mod Runs
+pub mod Readings
+pub mod ReadSteps
