@@ -1,11 +1,10 @@
--- A table in memory that has no row is at rest.
-use Rattle.std.proofs.Common.{◌≡◌, [], Option, None, refl, ap, sym, subst, arith}
+-- A table without keys is at rest.
+use Rattle.std.proofs.Common.{◌≡◌, Option, None, refl, ap, sym, subst, arith}
 use Rattle.std.specs.Option.{unwrap_or}
-use Rattle.std.specs.FinMap.{get-from_sorted}
+use Rattle.std.specs.FinMap.{empty, get-empty}
 use Rattle.pcj_table.specs.declared.row.Row.{Row}
 use Rattle.pcj_table.specs.Row.{no_row}
 use Rattle.pcj_table.specs.Table.{Key, row_at}
-use Rattle.pcj_memtable.specs.Entries.{entries_of, table_of}
 use Rattle.pcj_term.specs.Order.{bytes_cmp}
 use Rattle.pcj_oracle.specs.Clock.{clock_key, clock_number, stored_number}
 use Rattle.pcj_sound.specs.Fit.{IsClockRow}
@@ -13,19 +12,19 @@ use Rattle.pcj_sound.specs.Laws.{HasClockAlone}
 use Rattle.pcj_load.specs.Transaction.{IsAtRest}
 use Rattle.pcj_load.proofs.TransactionLaws.{alone_rests}
 
-nothing_at : (key : Key) → row_at (table_of []) key ≡ no_row
-nothing_at key = ap (λ (row : Option Row). unwrap_or row no_row) (get-from_sorted bytes_cmp (entries_of []) key tt)
+nothing_at : (key : Key) → row_at empty key ≡ no_row
+nothing_at key = ap (λ (row : Option Row). unwrap_or row no_row) (get-empty bytes_cmp key)
 
-pub nothing_alone : HasClockAlone (row_at (table_of []))
+pub nothing_alone : HasClockAlone (row_at empty)
 nothing_alone = record {
   clock = subst IsClockRow (sym (nothing_at clock_key)) (record { lock = refl; versions = refl; value = tt });
   others = λ key differs. nothing_at key;
 }
 
-pub nothing_stored : stored_number (table_of []) ≡ 1
+pub nothing_stored : stored_number empty ≡ 1
 nothing_stored = ap (λ (row : Row). clock_number row.plain) (nothing_at clock_key)
 
-pub nothing_rests : IsAtRest None (table_of [])
+pub nothing_rests : IsAtRest None empty
 nothing_rests =
-    let one : stored_number (table_of []) ≡ 1 = nothing_stored in
-    alone_rests (table_of []) nothing_alone (omega (arith, one)) (omega (arith, one))
+    let one : stored_number empty ≡ 1 = nothing_stored in
+    alone_rests empty nothing_alone (omega (arith, one)) (omega (arith, one))

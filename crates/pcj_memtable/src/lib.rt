@@ -2,10 +2,5 @@
 #![tactic(auto)]
 
 mod mem_table;
-mod mutate;
-mod place;
-mod range;
-mod read;
-mod walk;
 
 pub use mem_table::MemTable;

@@ -6,12 +6,10 @@ ghost use Rattle.pcj_table.specs.Row.{conds_hold};
 ghost use Rattle.pcj_table.specs.Table.{row_at, shown, first_row, is_next_at, is_next_lock, is_counted_between, rows_that, Mutates};
 ghost use Rattle.pcj_table.specs.declared.update.Update.TheVariants.{DropLock};
 ghost use Rattle.pcj_table.specs.declared.error.TableError.TheVariants.{Failed};
-ghost use Rattle.pcj_memtable.specs.Entries.{table_of};
+ghost use Rattle.pcj_sorted.specs.Entries.{table_of};
 
-use crate::mutate::mutate;
-use crate::read::row_of;
-use crate::walk::{count_between, next_locked, next_seen};
 use pcj_io::FailingCalls;
+use pcj_sorted::{count_between, mutate, next_locked, next_seen, row_of};
 use pcj_table::{Cond, Found, Mutated, Row, RowTable, TableError, Update};
 use pcj_term::Items;
 use std::alloc::Global;
@@ -29,7 +27,8 @@ pub struct MemTable {
 
 impl Model for MemTable {
     ghost use Rattle.std.specs.Prelude.{◌≡◌, true};
-    ghost use Rattle.pcj_memtable.specs.Entries.{Kept, keys_rise};
+    ghost use Rattle.pcj_memtable.specs.Entries.{Kept};
+    ghost use Rattle.pcj_sorted.specs.Entries.{keys_rise};
 
     ghost Value = { Kept };
 
@@ -41,7 +40,8 @@ impl Model for MemTable {
 impl MemTable {
     /// A table without rows. The calls whose numbers, from 1, are in `failing` answer `Failed`.
     pub fn new(alloc: Global, failing: Items<u64>) -> MemTable
-        ensures { result ≡ record { rows = []; calls = no_calls failing } }
+        ensures kept { result ≡ record { rows = []; calls = no_calls failing } }
+        ensures empty { table_of result.rows ≡ map.empty }
     {
         MemTable {
             alloc,

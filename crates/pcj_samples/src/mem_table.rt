@@ -1,7 +1,7 @@
 //! The cases of a table, over one in memory.
 
 ghost use Rattle.std.specs.Prelude.{IfOk};
-ghost use Rattle.pcj_memtable.specs.Entries.{table_of};
+ghost use Rattle.pcj_sorted.specs.Entries.{table_of};
 ghost use Rattle.pcj_replay.specs.Session.{IsFresh};
 
 use crate::failing::fail_on_one;

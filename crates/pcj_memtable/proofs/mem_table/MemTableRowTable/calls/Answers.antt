@@ -1,7 +1,8 @@
 use Rattle.std.proofs.Common.{ap, sym, ◌∙◌, arith}
 use Rattle.std.specs.FinMap as finmap
-use Rattle.pcj_memtable.specs.Entries.{Kept, table_of}
-use Rattle.pcj_memtable.proofs.Tables.{as_many}
+use Rattle.pcj_sorted.specs.Entries.{table_of}
+use Rattle.pcj_memtable.specs.Entries.{Kept}
+use Rattle.pcj_sorted.proofs.Tables.{as_many}
 use Rattle.pcj_memtable.proofs.mem_table.MemTableRowTable.calls.Goals as goal
 
 pub returns-clause-keys : goal.returns-clause-keys

@@ -1,8 +1,9 @@
 use Rattle.std.proofs.Common.{◌∙◌, ap, arith}
 use Rattle.pcj_table.specs.Row.{conds_hold}
 use Rattle.pcj_table.specs.Table.{row_at}
-use Rattle.pcj_memtable.specs.Entries.{Kept, table_of}
-use Rattle.pcj_memtable.proofs.Tables.{as_many}
+use Rattle.pcj_sorted.specs.Entries.{table_of}
+use Rattle.pcj_memtable.specs.Entries.{Kept}
+use Rattle.pcj_sorted.proofs.Tables.{as_many}
 use Rattle.pcj_memtable.proofs.mem_table.MemTableRowTable.mutate.Goals as goal
 
 pub returns-in_err-mutate-clause-drops : goal.returns-in_err-mutate-clause-drops

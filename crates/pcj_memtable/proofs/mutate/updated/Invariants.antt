@@ -1,6 +1,0 @@
-use Rattle.std.proofs.Common.{◌≡◌, drop}
-use Rattle.pcj_table.specs.Row.{updated_all}
-use Rattle.pcj_memtable.proofs.mutate.updated.Given as goal
-
-abbrev pub invariant-loop-update : goal.invariant-loop-update
-invariant-loop-update l = updated_all l.new (drop l.update-index l.updates) ≡ updated_all l.fn.row l.updates

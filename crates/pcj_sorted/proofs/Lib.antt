@@ -1,0 +1,4 @@
+pub mod Edits
+pub mod Places
+pub mod Ranges
+pub mod Tables

@@ -1,0 +1,10 @@
+use Rattle.std.proofs.Common.{◌∙◌}
+use Rattle.pcj_sorted.proofs.Ranges.{from_row, from_gap}
+use Rattle.pcj_sorted.proofs.range.rows_from.Goals as goal
+
+pub returns-in-Ok : goal.returns-in-Ok
+returns-in-Ok c =
+    c.split_at.ensures.back ∙ from_row c.args.key.now c.args.rows.now c.in-Ok.at c.requires c.in-Ok.ensures.place
+
+pub returns-in-Err : goal.returns-in-Err
+returns-in-Err c = c.split_at-in-Err.ensures.back ∙ from_gap c.args.key.now c.args.rows.now c.in-Err.at c.requires c.in-Err.ensures.place
