@@ -1,3 +1,4 @@
 pub mod TxnLemmas
 pub mod RecoveryLemmas
 pub mod ReadLemmas
+pub mod ActorLemmas

@@ -1,0 +1,16 @@
+use pcj_encode::KeyRange;
+use pcj_term::Bytes;
+use pcj_txn::Txn;
+
+/// What an actor carries out.
+#[derive(Drop)]
+pub enum Task {
+    /// Nothing.
+    Rest,
+    /// A read of the row of this key.
+    Get(Bytes),
+    /// A read of the first row of this range in which something is seen.
+    Next(KeyRange),
+    /// This transaction.
+    Write(Txn),
+}
