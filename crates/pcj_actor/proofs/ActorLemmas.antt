@@ -1,5 +1,5 @@
 -- What an actor's steps make of it.
-use Rattle.std.proofs.Common.{◌≡◌, ℕ, nat_le, Bool, true, false, cond, List, [], ◌∷◌, ◌++◌, Option, Some, None, refl, ap, ap₂, sym, subst, ◌∙◌}
+use Rattle.std.proofs.Common.{◌⊎◌, inl, inr, is_some, arith, ◌≡◌, ℕ, nat_le, Bool, true, false, cond, List, [], ◌∷◌, ◌++◌, Option, Some, None, refl, ap, ap₂, sym, subst, ◌∙◌}
 use Rattle.pcj_table.specs.declared.lock.Lock.{Lock}
 use Rattle.pcj_table.specs.declared.plain.Plain.{Plain}
 use Rattle.pcj_table.specs.Table.{Key, Table, row_at}
@@ -18,7 +18,9 @@ use Rattle.pcj_recover.specs.Steps.{Steps as RecoverySteps, KeepPlain}
 use Rattle.pcj_actor.specs.declared.task.Task.{Task}
 use Rattle.pcj_txn.specs.declared.event.TxnEvent.{TxnEvent}
 use Rattle.pcj_txn.specs.declared.event.TxnEvent.TheVariants.{MetLock}
-use Rattle.pcj_txn.specs.Progress.{Progress as TxnProgress}
+use Rattle.pcj_txn.specs.Errors.{step_calls, MakesStepCalls}
+use Rattle.pcj_txn.specs.Progress.{Progress as TxnProgress, due}
+use Rattle.pcj_table.specs.Calls.{counted}
 use Rattle.pcj_txn.specs.Steps.{Steps as TxnSteps, MeetsLock, Stays}
 use Rattle.pcj_recover.specs.Progress.{new_progress as new_recovery_progress}
 use Rattle.pcj_oracle.specs.declared.block.Block.{Block}
@@ -29,7 +31,7 @@ use Rattle.pcj_actor.specs.declared.told.Told.{Told}
 use Rattle.pcj_actor.specs.declared.told.Told.TheVariants.{Answered, Met}
 use Rattle.pcj_actor.specs.declared.task.Task.TheVariants.{Rest, Get, Next, Write}
 use Rattle.pcj_actor.specs.StepLaws.{state_of, AreTxnMoves}
-use Rattle.pcj_actor.specs.Progress.{Progress, recovery_of, transaction_of, locked_of, IsReading, IsTold, IsOfStart, with_held, with_met, with_recovered, with_txn, told_event, IsToldOf, ReadsNoPlain, Recovers, Answers, Meets, Writes, TableStays, Tells, Moved}
+use Rattle.pcj_actor.specs.Progress.{Progress, recovery_of, transaction_of, locked_of, IsReading, IsTold, IsOfStart, with_held, with_met, with_recovered, with_txn, told_event, IsToldOf, ReadsNoPlain, Recovers, Answers, Meets, Writes, TableStays, Tells, Moved, MakesUpTo, task_calls, calls_of}
 use Rattle.pcj_actor.proofs.TxnLemmas.{txn_steps_are_moves}
 use Rattle.pcj_actor.proofs.ReadLemmas.{txn_meets_others}
 use Rattle.pcj_actor.proofs.RecoveryLemmas.{recovery_steps_are_moves}
@@ -203,3 +205,29 @@ pub recovery_keeps_number : (oracle : Option Block) (table table' : Table) (self
     Moved self (next_number oracle table) table new (next_number oracle table') table'
 recovery_keeps_number oracle table table' self new plain order moved =
     subst (λ number. Moved self (next_number oracle table) table new number table') (ap (λ (p : Option Plain). next_at oracle (clock_number p)) (sym (plain clock_key))) (moved (next_number oracle table) order)
+
+-- ---- calls
+
+pub up_to_one : (before now : ℕ) → (now ≡ before) ⊎ (now ≡ counted before) → MakesUpTo 1 before now
+up_to_one before now (inl none) = record { calls = 0; made = none; within = omega arith }
+up_to_one before now (inr one) = record { calls = 1; made = one; within = omega arith }
+
+-- a read makes one call at most
+pub read_calls : (self : Progress) (task : Task) (oracle : Option Block) (table : Table) (before now : ℕ) → self.task ≡ task → IsReading task → (now ≡ before) ⊎ (now ≡ counted before) → MakesUpTo (task_calls self.task oracle table) before now
+read_calls self Rest oracle table before now is reading most = absurd reading
+read_calls self (Get key) oracle table before now is reading most = subst (λ t. MakesUpTo (task_calls t oracle table) before now) (sym is) (up_to_one before now most)
+read_calls self (Next range) oracle table before now is reading most = subst (λ t. MakesUpTo (task_calls t oracle table) before now) (sym is) (up_to_one before now most)
+read_calls self (Write txn) oracle table before now is reading most = absurd reading
+
+pub txn_calls : (self : Progress) (txn : TxnProgress) (oracle : Option Block) (table : Table) (before now : ℕ) (answered : Bool) → self.task ≡ Write txn → MakesStepCalls (step_calls (due txn) oracle table) before now answered →
+    MakesUpTo (task_calls self.task oracle table) before now
+txn_calls self txn oracle table before now answered is calls =
+    subst (λ t. MakesUpTo (task_calls t oracle table) before now) (sym is) (record { calls = calls.calls; made = calls.made; within = calls.within })
+
+-- where there is a recovery its step's calls are all
+pub recovery_calls : (self : Progress) (oracle : Option Block) (table : Table) (before now : ℕ) → is_some self.actor.recovery ≡ true → (now ≡ before) ⊎ (now ≡ counted before) → MakesUpTo (calls_of self oracle table) before now
+recovery_calls self oracle table before now some most = rw some (up_to_one before now most)
+
+-- and else those of the task
+pub other_calls : (self : Progress) (oracle : Option Block) (table : Table) (before now : ℕ) → self.actor.recovery ≡ None → MakesUpTo (task_calls self.task oracle table) before now → MakesUpTo (calls_of self oracle table) before now
+other_calls self oracle table before now none made = rw (ap is_some none) made

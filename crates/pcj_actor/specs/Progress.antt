@@ -1,5 +1,5 @@
 -- What an actor holds, and what it carries out.
-use Rattle.std.specs.Prelude.{List, ◌∷◌, ◌≡◌, ℕ, Bool, true, false, [], Option, Some, None}
+use Rattle.std.specs.Prelude.{List, ◌∷◌, ◌≡◌, ℕ, ◌≤◌, Bool, true, false, is_some, if◌then◌else◌, [], Option, Some, None}
 use Rattle.pcj_moves.specs.Transactions.{Transaction, new_transaction}
 use Rattle.pcj_moves.specs.Recoveries.{Recovery, new_recovery}
 use Rattle.pcj_moves.specs.Actors.{Actor, new_actor, with_answer, with_recovery, with_transaction}
@@ -21,7 +21,9 @@ use Rattle.pcj_recover.specs.declared.event.RecoveryEvent.{RecoveryEvent}
 use Rattle.pcj_recover.specs.declared.event.RecoveryEvent.TheVariants.{Working, RolledForward, RolledBack}
 use Rattle.pcj_recover.specs.Steps.{Steps as RecoverySteps}
 use Rattle.pcj_txn.specs.declared.event.TxnEvent.{TxnEvent}
-use Rattle.pcj_txn.specs.Progress.{Progress as TxnProgress}
+use Rattle.pcj_oracle.specs.Calls.{after_calls}
+use Rattle.pcj_txn.specs.Errors.{step_calls}
+use Rattle.pcj_txn.specs.Progress.{Progress as TxnProgress, due}
 use Rattle.pcj_txn.specs.Steps.{Steps as TxnSteps}
 use Rattle.pcj_actor.specs.declared.event.ActorEvent.{ActorEvent}
 use Rattle.pcj_actor.specs.declared.event.ActorEvent.TheVariants as event
@@ -179,3 +181,22 @@ Moved old number table new number' table' = (moves : List Move) × Makes moves n
 abbrev pub Carries : Progress → Option Block → Table → Progress → Option Block → Table → Type 0
 Carries old oracle table new oracle' table' = (others : List Actor) → ReadsNoPlain old.task (row_at table) → IsConsistent (state_of oracle table (old.actor ∷ others)) →
     Moved old (next_number oracle table) table new (next_number oracle' table') table'
+
+-- ---- calls
+
+-- so many calls were made at most
+pub record MakesUpTo (most before now : ℕ) : Type 0 where
+  pub calls : ℕ
+  pub made : now ≡ after_calls calls before
+  pub within : calls ≤ most
+
+-- how many calls a task's step makes at most: one, or those of a draw
+abbrev pub task_calls : Task → Option Block → Table → ℕ
+task_calls Rest oracle table = 0
+task_calls (Get key) oracle table = 1
+task_calls (Next range) oracle table = 1
+task_calls (Write progress) oracle table = step_calls (due progress) oracle table
+
+-- where there is a recovery its step makes one
+abbrev pub calls_of : Progress → Option Block → Table → ℕ
+calls_of progress oracle table = if is_some progress.actor.recovery then 1 else task_calls progress.task oracle table

@@ -1,5 +1,6 @@
-ghost use Rattle.std.specs.Prelude.{◌≡◌, ℕ, [], false, is_some, Some, None, Ok, IfOk, OnOk, OnErr};
+ghost use Rattle.std.specs.Prelude.{◌≡◌, ◌⊎◌, ℕ, [], ◌∷◌, true, false, is_some, Some, None, Ok, IfOk, OnOk, OnErr};
 ghost use Rattle.pcj_table.specs.declared.lock.Lock.{Lock};
+ghost use Rattle.pcj_table.specs.Calls.{counted};
 ghost use Rattle.pcj_table.specs.Table.{Key, row_at};
 ghost use Rattle.pcj_oracle.specs.Clock.{IsClock};
 ghost use Rattle.pcj_oracle.specs.Draw.{Keeps};
@@ -7,11 +8,13 @@ ghost use Rattle.pcj_mvcc.specs.Times.{TimesInOrder};
 ghost use Rattle.pcj_moves.specs.declared.answer.Answer.{Answer};
 ghost use Rattle.pcj_recover.specs.declared.event.RecoveryEvent.{RecoveryEvent};
 ghost use Rattle.pcj_recover.specs.Steps.{KeepPlain};
-ghost use Rattle.pcj_moves.specs.Transactions.{new_transaction};
+ghost use Rattle.pcj_moves.specs.Transactions.{new_transaction, are_distinct};
+ghost use Rattle.pcj_mvcc.specs.Reading.{Rows};
+ghost use Rattle.pcj_moves.specs.Moves.{Makes, Plan};
 ghost use Rattle.pcj_txn.specs.Progress.{new_progress as new_txn};
 ghost use Rattle.pcj_actor.specs.declared.task.Task.TheVariants as doing;
 ghost use Rattle.pcj_actor.specs.declared.told.Told.TheVariants.{Answered, Met};
-ghost use Rattle.pcj_actor.specs.Progress.{new_progress, Moved, Carries, IsReading, Recovers, Tells, is_recovery, told_event, with_task, with_held, with_met};
+ghost use Rattle.pcj_actor.specs.Progress.{new_progress, Moved, Carries, IsReading, Recovers, Tells, is_recovery, told_event, MakesUpTo, task_calls, calls_of, with_task, with_held, with_met};
 
 use crate::ActorEvent;
 use crate::task::Task;
@@ -63,7 +66,8 @@ impl Actor {
     /// Reads the row of this key next.
     pub fn get(&mut self, key: Bytes)
         requires { self.old.actor.transaction ≡ new_transaction [] }
-        ensures { self.new ≡ with_task self.old (doing.Get key) }
+        ensures task { self.new ≡ with_task self.old (doing.Get key) }
+        ensures same { self.new.actor ≡ self.old.actor }
     {
         self.task = Task::Get(key);
     }
@@ -71,15 +75,18 @@ impl Actor {
     /// Reads the first row of this range next in which something is seen. No row of the range has a plain value.
     pub fn next(&mut self, range: KeyRange)
         requires { self.old.actor.transaction ≡ new_transaction [] }
-        ensures { self.new ≡ with_task self.old (doing.Next range) }
+        ensures task { self.new ≡ with_task self.old (doing.Next range) }
+        ensures same { self.new.actor ≡ self.old.actor }
     {
         self.task = Task::Next(range);
     }
 
     /// Carries out a transaction of these writes next, whose rows are distinct. It is the actor's only one.
     pub fn write(&mut self, writes: Items<Write>)
-        requires { self.old.actor.transaction ≡ new_transaction [] }
-        ensures { self.new ≡ with_task self.old (doing.Write (new_txn self.old.actor.start writes)) }
+        requires nothing { self.old.actor.transaction ≡ new_transaction [] }
+        requires distinct { are_distinct writes ≡ true }
+        ensures task { self.new ≡ with_task self.old (doing.Write (new_txn self.old.actor.start writes)) }
+        ensures moves { (number : ℕ) (rows : Rows) → Makes (Plan writes ∷ []) number rows self.old.actor number rows self.new.actor }
     {
         self.task = Task::Write(Txn::new(self.alloc, self.start, writes));
     }
@@ -109,6 +116,9 @@ impl Actor {
         ensures same { OnErr result (self.new ≡ self.old) }
         ensures kept { OnErr result (Keeps oracle.old (T.rows table.old) oracle.new (T.rows table.new)) }
         ensures clock { IsClock oracle.new (T.rows table.new) }
+
+        // The calls of the table.
+        ensures calls { MakesUpTo (calls_of self.old oracle.old (T.rows table.old)) (T.made table.old) (T.made table.new) }
     {
         match self.recover(table)? {
             Some(event) => Ok(ActorEvent::Recovers(event)),
@@ -121,9 +131,11 @@ impl Actor {
         ensures moves { (number : ℕ) → TimesInOrder (row_at (T.rows table.old)) → Moved self.old number (T.rows table.old) self.new number (T.rows table.new) }
         ensures same { OnErr result (self.new ≡ self.old) }
         ensures err { OnErr result (T.rows table.new ≡ T.rows table.old) }
+        ensures there { OnErr result (is_some self.old.actor.recovery ≡ true) }
         ensures plain { KeepPlain (T.rows table.old) (T.rows table.new) }
         ensures some { (event : RecoveryEvent) → result ≡ Ok (Some event) → Recovers self.old (T.rows table.old) event self.new (T.rows table.new) }
-        ensures none { result ≡ Ok None → (self.old.actor.recovery ≡ None) × (self.new ≡ self.old) × (T.rows table.new ≡ T.rows table.old) }
+        ensures most { (T.made table.new ≡ T.made table.old) ⊎ (T.made table.new ≡ counted (T.made table.old)) }
+        ensures none { result ≡ Ok None → (self.old.actor.recovery ≡ None) × (self.new ≡ self.old) × (T.rows table.new ≡ T.rows table.old) × (T.made table.new ≡ T.made table.old) }
     {
         let Some(recovery) = &mut self.recovery else {
             return Ok(None);
@@ -150,6 +162,7 @@ impl Actor {
         ensures same { OnErr result (self.new ≡ self.old) }
         ensures kept { OnErr result (Keeps oracle.old (T.rows table.old) oracle.new (T.rows table.new)) }
         ensures clock { IsClock oracle.new (T.rows table.new) }
+        ensures calls { MakesUpTo (task_calls self.old.task oracle.old (T.rows table.old)) (T.made table.old) (T.made table.new) }
     {
         match &mut self.task {
             Task::Rest => Ok(ActorEvent::Rests),

@@ -2,7 +2,7 @@ use Rattle.std.proofs.Common.{refl, sym, subst, ap, ◌∙◌}
 use Rattle.pcj_table.specs.Table.{row_at}
 use Rattle.pcj_actor.specs.declared.task.Task.TheVariants.{Get, Next}
 use Rattle.pcj_actor.specs.Progress.{Progress, ReadsNoPlain}
-use Rattle.pcj_actor.proofs.ActorLemmas.{progress_as, held_tells, written_tells, read_is_held, txn_goes_on, txn_meets}
+use Rattle.pcj_actor.proofs.ActorLemmas.{progress_as, read_calls, txn_calls, held_tells, written_tells, read_is_held, txn_goes_on, txn_meets}
 use Rattle.pcj_actor.proofs.actor.Actor.carry_out.Goals as goal
 
 pub returns-in_ok-hold-in-Get-clause-tells : goal.returns-in_ok-hold-in-Get-clause-tells
@@ -49,4 +49,17 @@ returns-in_default g c = record {
   same = tt;
   kept = tt;
   clock = (c.in_ok-event-in-Write.ensures {u = tt}).clock;
+  calls = txn_calls c.args.self.now c.in-Write.txn c.args.oracle.now _ _ _ _ (ap (λ (p : Progress). p.task) (sym c.self.view_is) ∙ c.in-Write.is) (c.in_ok-event-in-Write.ensures {u = tt}).calls;
 }
+
+pub returns-in_err-hold-in-Get-clause-calls : goal.returns-in_err-hold-in-Get-clause-calls
+returns-in_err-hold-in-Get-clause-calls g c = read_calls c.args.self.now (Get c.in-Get.key) c.args.oracle.now _ _ _ (ap (λ (p : Progress). p.task) (sym c.self.view_is) ∙ c.in-Get.is) tt (c.in_ok-told-in-Get.ensures {u = tt}).most
+
+pub returns-in_ok-hold-in-Get-clause-calls : goal.returns-in_ok-hold-in-Get-clause-calls
+returns-in_ok-hold-in-Get-clause-calls g c = read_calls c.args.self.now (Get c.in-Get.key) c.args.oracle.now _ _ _ (ap (λ (p : Progress). p.task) (sym c.self.view_is) ∙ c.in-Get.is) tt (c.in_ok-told-in-Get.ensures {u = tt}).most
+
+pub returns-in_err-hold-in-Next-clause-calls : goal.returns-in_err-hold-in-Next-clause-calls
+returns-in_err-hold-in-Next-clause-calls g c = read_calls c.args.self.now (Next c.in-Next.range) c.args.oracle.now _ _ _ (ap (λ (p : Progress). p.task) (sym c.self.view_is) ∙ c.in-Next.is) tt (c.in_ok-told-in-Next.ensures {u = tt}).most
+
+pub returns-in_ok-hold-in-Next-clause-calls : goal.returns-in_ok-hold-in-Next-clause-calls
+returns-in_ok-hold-in-Next-clause-calls g c = read_calls c.args.self.now (Next c.in-Next.range) c.args.oracle.now _ _ _ (ap (λ (p : Progress). p.task) (sym c.self.view_is) ∙ c.in-Next.is) tt (c.in_ok-told-in-Next.ensures {u = tt}).most

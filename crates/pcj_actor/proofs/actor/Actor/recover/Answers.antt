@@ -10,7 +10,9 @@ returns-in_default-2 g c = record {
   moves = λ number order. recovery_ends number _ c.self.inside.start c.self.inside.answers c.self.inside.task c.self.inside.recovery c.in-Some.recovery c.step.new.self _ _ c.in_ok-ended.ended c.self.view_is c.in-Some.is order (c.in_ok-ended.ensures {u = tt}).step;
   same = tt;
   err = tt;
+  there = tt;
   plain = (c.in_ok-ended.ensures {u = tt}).plain;
   some = λ event told. recovered_last _ c.self.inside.start c.self.inside.answers c.self.inside.task c.self.inside.recovery c.in-Some.recovery c.step.new.self _ _ c.in_ok-ended.ended event c.self.view_is c.in-Some.is (c.in_ok-ended.ensures {u = tt}).step c.in_default-2.not-Working cc;
+  most = (c.in_ok-ended.ensures {u = tt}).most;
   none = λ told. absurd cc;
 }
