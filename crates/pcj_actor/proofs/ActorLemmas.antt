@@ -1,16 +1,21 @@
 -- What an actor's steps make of it.
-use Rattle.std.proofs.Common.{◌⊎◌, inl, inr, is_some, arith, ◌≡◌, ℕ, nat_le, Bool, true, false, cond, List, [], ◌∷◌, ◌++◌, Option, Some, None, refl, ap, ap₂, sym, subst, ◌∙◌}
+use Rattle.std.proofs.Common.{◌≢◌, ◌⊎◌, inl, inr, is_some, arith, ◌≡◌, ℕ, nat_le, Bool, true, false, cond, List, [], ◌∷◌, ◌++◌, Option, Some, None, refl, ap, ap₂, sym, subst, ◌∙◌}
 use Rattle.pcj_table.specs.declared.lock.Lock.{Lock}
 use Rattle.pcj_table.specs.declared.plain.Plain.{Plain}
+use Rattle.pcj_table.specs.declared.row.Row.{Row}
+use Rattle.pcj_table.specs.declared.update.Update.TheVariants.{SetPlain}
+use Rattle.pcj_table.specs.Row.{updated}
+use Rattle.pcj_term.proofs.ByteLemmas.{other_bytes}
+use Rattle.pcj_mvcc.proofs.Rows.{put_other}
 use Rattle.pcj_table.specs.Table.{Key, Table, row_at}
 use Rattle.pcj_mvcc.specs.Reading.{Rows, lock_up_to}
 use Rattle.pcj_mvcc.specs.Times.{TimesInOrder}
 use Rattle.pcj_moves.specs.declared.answer.Answer.{Answer}
-use Rattle.pcj_moves.specs.Transactions.{Transaction}
+use Rattle.pcj_moves.specs.Transactions.{Transaction, new_transaction}
 use Rattle.pcj_moves.specs.Reads.{IsRead}
 use Rattle.pcj_moves.specs.Recoveries.{new_recovery}
 use Rattle.pcj_moves.specs.Actors.{Actor, with_answer, with_recovery}
-use Rattle.pcj_moves.specs.Moves.{Move, Read, Meet, MayMeet, IsConsistent, EndRecovery, Makes, number_after, rows_after, actor_after}
+use Rattle.pcj_moves.specs.Moves.{Move, WritePlain, Read, Meet, MayMeet, IsConsistent, EndRecovery, Makes, number_after, rows_after, actor_after}
 use Rattle.pcj_recover.specs.declared.event.RecoveryEvent.{RecoveryEvent}
 use Rattle.pcj_recover.specs.declared.event.RecoveryEvent.TheVariants.{Working, RolledForward, RolledBack}
 use Rattle.pcj_recover.specs.Progress.{Progress as RecoveryProgress}
@@ -24,14 +29,14 @@ use Rattle.pcj_table.specs.Calls.{counted}
 use Rattle.pcj_txn.specs.Steps.{Steps as TxnSteps, MeetsLock, Stays}
 use Rattle.pcj_recover.specs.Progress.{new_progress as new_recovery_progress}
 use Rattle.pcj_oracle.specs.declared.block.Block.{Block}
-use Rattle.pcj_oracle.specs.Clock.{clock_key, clock_number, next_at, next_number}
+use Rattle.pcj_oracle.specs.Clock.{clock_key, clock_number, stored_number, next_at, next_number, IsClock, IsClockAt}
 use Rattle.pcj_moves.proofs.StepLemmas.{met_is_other, nothing_is_free}
 use Rattle.pcj_actor.specs.declared.event.ActorEvent.{ActorEvent}
 use Rattle.pcj_actor.specs.declared.told.Told.{Told}
 use Rattle.pcj_actor.specs.declared.told.Told.TheVariants.{Answered, Met}
-use Rattle.pcj_actor.specs.declared.task.Task.TheVariants.{Rest, Get, Next, Write}
+use Rattle.pcj_actor.specs.declared.task.Task.TheVariants.{Rest, Get, Next, Put, Write}
 use Rattle.pcj_actor.specs.StepLaws.{state_of, AreTxnMoves}
-use Rattle.pcj_actor.specs.Progress.{Progress, recovery_of, transaction_of, locked_of, IsReading, IsTold, IsOfStart, with_held, with_met, with_recovered, with_txn, told_event, IsToldOf, ReadsNoPlain, Recovers, Answers, Meets, Writes, TableStays, Tells, Moved, MakesUpTo, task_calls, calls_of}
+use Rattle.pcj_actor.specs.Progress.{Progress, recovery_of, transaction_of, locked_of, IsReading, IsTold, IsOfStart, with_held, with_met, with_recovered, with_txn, told_event, IsToldOf, ReadsNoPlain, Recovers, Answers, Meets, Writes, TableStays, Tells, IsPut, Moved, MakesUpTo, task_calls, calls_of}
 use Rattle.pcj_actor.proofs.TxnLemmas.{txn_steps_are_moves}
 use Rattle.pcj_actor.proofs.ReadLemmas.{txn_meets_others}
 use Rattle.pcj_actor.proofs.RecoveryLemmas.{recovery_steps_are_moves}
@@ -75,6 +80,7 @@ reading_writes_nothing : (task : Task) → IsReading task → (transaction_of ta
 reading_writes_nothing Rest reading = absurd reading
 reading_writes_nothing (Get key) reading = refl
 reading_writes_nothing (Next range) reading = refl
+reading_writes_nothing (Put key plain) reading = absurd reading
 reading_writes_nothing (Write progress) reading = absurd reading
 
 lock_stands : (lock : Option Lock) (time : ℕ) (met : Lock) → lock_up_to time lock ≡ Some met → lock ≡ Some met
@@ -217,6 +223,7 @@ pub read_calls : (self : Progress) (task : Task) (oracle : Option Block) (table 
 read_calls self Rest oracle table before now is reading most = absurd reading
 read_calls self (Get key) oracle table before now is reading most = subst (λ t. MakesUpTo (task_calls t oracle table) before now) (sym is) (up_to_one before now most)
 read_calls self (Next range) oracle table before now is reading most = subst (λ t. MakesUpTo (task_calls t oracle table) before now) (sym is) (up_to_one before now most)
+read_calls self (Put key plain) oracle table before now is reading most = absurd reading
 read_calls self (Write txn) oracle table before now is reading most = absurd reading
 
 pub txn_calls : (self : Progress) (txn : TxnProgress) (oracle : Option Block) (table : Table) (before now : ℕ) (answered : Bool) → self.task ≡ Write txn → MakesStepCalls (step_calls (due txn) oracle table) before now answered →
@@ -231,3 +238,32 @@ recovery_calls self oracle table before now some most = rw some (up_to_one befor
 -- and else those of the task
 pub other_calls : (self : Progress) (oracle : Option Block) (table : Table) (before now : ℕ) → self.actor.recovery ≡ None → MakesUpTo (task_calls self.task oracle table) before now → MakesUpTo (calls_of self oracle table) before now
 other_calls self oracle table before now none made = rw (ap is_some none) made
+
+-- ---- plain values
+
+-- a plain value of another row leaves the clock's
+put_keeps_stored : (table table' : Table) (key : Key) (plain : Plain) (applied : Bool) → key ≢ clock_key → IsPut applied key plain table table' → stored_number table' ≡ stored_number table
+put_keeps_stored table table' key plain true other done =
+    ap (λ (rows : Rows). clock_number (rows clock_key).plain) done.1
+    ∙ ap (λ (r : Row). clock_number r.plain) (put_other (row_at table) key (updated (row_at table key) (SetPlain plain)) clock_key (other_bytes clock_key key (λ e. other (sym e))))
+put_keeps_stored table table' key plain false other done = ap stored_number done.1
+
+pub put_keeps_clock : (oracle : Option Block) (table table' : Table) (start : ℕ) (task : Task) (key : Key) (plain : Plain) (applied : Bool) → task ≡ Put key plain → IsOfStart start task → IsPut applied key plain table table' →
+    IsClock oracle table → IsClock oracle table'
+put_keeps_clock oracle table table' start task key plain applied is other done clock = subst (IsClockAt oracle) (sym (put_keeps_stored table table' key plain applied (subst (IsOfStart start) is other) done)) clock
+
+pub put_moves : (oracle : Option Block) (table table' : Table) (self : Progress) (start : ℕ) (answers : List Answer) (task : Task) (recovery : Option RecoveryProgress) (key : Key) (plain : Plain) (applied : Bool) →
+    progress_as start answers task recovery ≡ self → task ≡ Put key plain → IsOfStart start task → IsPut applied key plain table table' →
+    (moves : List Move) × Makes moves (next_number oracle table) (row_at table) self.actor (next_number oracle table') (row_at table') (actor_of start answers (new_transaction []) recovery)
+put_moves oracle table table' self start answers task recovery key plain applied view is other done = by applied done
+  where
+    same : actor_of start answers (new_transaction []) recovery ≡ self.actor
+    same = ap (λ t. actor_of start answers (transaction_of t) recovery) (sym is) ∙ ap (λ (p : Progress). p.actor) view
+
+    number : next_number oracle table' ≡ next_number oracle table
+    number = ap (next_at oracle) (put_keeps_stored table table' key plain applied (subst (IsOfStart start) is other) done)
+
+    by : (b : Bool) → IsPut b key plain table table' →
+        (moves : List Move) × Makes moves (next_number oracle table) (row_at table) self.actor (next_number oracle table') (row_at table') (actor_of start answers (new_transaction []) recovery)
+    by true made = (WritePlain key plain ∷ [], (tt, (number, made.1, same)))
+    by false left = ([], (number, ap row_at left.1, same))

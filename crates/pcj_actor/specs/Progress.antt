@@ -1,15 +1,19 @@
 -- What an actor holds, and what it carries out.
-use Rattle.std.specs.Prelude.{List, ◌∷◌, ◌≡◌, ℕ, ◌≤◌, Bool, true, false, is_some, if◌then◌else◌, [], Option, Some, None}
+use Rattle.std.specs.Prelude.{◌≢◌, List, ◌∷◌, ◌≡◌, ℕ, ◌≤◌, Bool, true, false, is_some, if◌then◌else◌, [], Option, Some, None}
 use Rattle.pcj_moves.specs.Transactions.{Transaction, new_transaction}
 use Rattle.pcj_moves.specs.Recoveries.{Recovery, new_recovery}
 use Rattle.pcj_moves.specs.Actors.{Actor, new_actor, with_answer, with_recovery, with_transaction}
-use Rattle.pcj_mvcc.specs.Reading.{Rows, lock_up_to}
+use Rattle.pcj_mvcc.specs.Reading.{Rows, lock_up_to, acted, allows}
 use Rattle.pcj_moves.specs.Reads.{IsRead}
 use Rattle.pcj_table.specs.declared.lock.Lock.{Lock}
 use Rattle.pcj_moves.specs.declared.answer.Answer.{Answer}
 use Rattle.pcj_table.specs.Table.{Key, Table, row_at}
 use Rattle.pcj_oracle.specs.declared.block.Block.{Block}
-use Rattle.pcj_oracle.specs.Clock.{next_number}
+use Rattle.pcj_oracle.specs.Clock.{clock_key, next_number}
+use Rattle.pcj_table.specs.declared.plain.Plain.{Plain}
+use Rattle.pcj_table.specs.declared.cond.Cond.TheVariants.{PlainBelow}
+use Rattle.pcj_table.specs.declared.update.Update.TheVariants.{SetPlain}
+use Rattle.pcj_mvcc.specs.declared.act.Act.{Act}
 use Rattle.pcj_actor.specs.StepLaws.{state_of}
 use Rattle.pcj_moves.specs.Moves.{Move, Makes, IsConsistent}
 use Rattle.pcj_recover.specs.Progress.{Progress as RecoveryProgress}
@@ -30,7 +34,7 @@ use Rattle.pcj_actor.specs.declared.event.ActorEvent.TheVariants as event
 use Rattle.pcj_actor.specs.declared.told.Told.{Told}
 use Rattle.pcj_actor.specs.declared.told.Told.TheVariants.{Answered, Met}
 use Rattle.pcj_actor.specs.declared.task.Task.{Task}
-use Rattle.pcj_actor.specs.declared.task.Task.TheVariants.{Rest, Get, Next, Write}
+use Rattle.pcj_actor.specs.declared.task.Task.TheVariants.{Rest, Get, Next, Put, Write}
 
 -- the actor as others see it, what it carries out, and whether the lock of its recovery's primary is to be dropped
 pub record Progress : Type 0 where
@@ -42,6 +46,7 @@ abbrev pub transaction_of : Task → Transaction
 transaction_of Rest = new_transaction []
 transaction_of (Get key) = new_transaction []
 transaction_of (Next range) = new_transaction []
+transaction_of (Put key plain) = new_transaction []
 transaction_of (Write progress) = progress.transaction
 
 abbrev pub recovery_of : Option RecoveryProgress → Option Recovery
@@ -52,11 +57,12 @@ abbrev pub locked_of : Option RecoveryProgress → Bool
 locked_of None = false
 locked_of (Some progress) = progress.locked
 
--- the transaction is of the actor's start
+-- the transaction is of the actor's start, and a plain value isn't written on the clock's row
 abbrev pub IsOfStart : ℕ → Task → Type 0
 IsOfStart start Rest = Unit {0}
 IsOfStart start (Get key) = Unit {0}
 IsOfStart start (Next range) = Unit {0}
+IsOfStart start (Put key plain) = key ≢ clock_key
 IsOfStart start (Write progress) = progress.start ≡ start
 
 abbrev pub new_progress : ℕ → Progress
@@ -67,6 +73,7 @@ abbrev pub ReadsNoPlain : Task → Rows → Type 0
 ReadsNoPlain Rest rows = Unit {0}
 ReadsNoPlain (Get key) rows = Unit {0}
 ReadsNoPlain (Next range) rows = shown.HasNoPlain (ask.Next range) rows
+ReadsNoPlain (Put key plain) rows = Unit {0}
 ReadsNoPlain (Write progress) rows = Unit {0}
 
 -- what was read is what is seen, or a lock of that time or before stands in the row
@@ -78,6 +85,7 @@ abbrev pub IsReading : Task → Type 0
 IsReading Rest = ⊥
 IsReading (Get key) = Unit {0}
 IsReading (Next range) = Unit {0}
+IsReading (Put key plain) = ⊥
 IsReading (Write progress) = ⊥
 
 -- with one more answer, after which nothing is to be carried out, or with the recovery of a lock that was met
@@ -149,6 +157,21 @@ pub record Recovers (old : Progress) (table : Table) (event : RecoveryEvent) (ne
   pub steps : RecoverySteps before table event after table'
   pub next : new ≡ with_recovered old event after
 
+-- a plain value is written where none of its number or a later one stands
+abbrev pub plain_act : Plain → Act
+plain_act plain = record { conds = PlainBelow plain.seq ∷ []; updates = SetPlain plain ∷ [] }
+
+abbrev pub IsPut : Bool → Key → Plain → Table → Table → Type 0
+IsPut true key plain table table' = (allows (plain_act plain) (row_at table key) ≡ true) × (row_at table' ≡ acted (row_at table) key (plain_act plain))
+IsPut false key plain table table' = (allows (plain_act plain) (row_at table key) ≡ false) × (table' ≡ table)
+
+pub record Puts (old : Progress) (table : Table) (applied : Bool) (new : Progress) (table' : Table) : Type 0 where
+  pub key : Key
+  pub plain : Plain
+  pub is : old.task ≡ Put key plain
+  pub put : IsPut applied key plain table table'
+  pub next : new ≡ with_task old Rest
+
 -- a step of the transaction is made
 pub record Writes (old : Progress) (oracle : Option Block) (table : Table) (event : TxnEvent) (new : Progress) (oracle' : Option Block) (table' : Table) : Type 0 where
   pub before : TxnProgress
@@ -163,6 +186,7 @@ Tells old oracle table event.Rests new oracle' table' = (old.task ≡ Rest) × (
 Tells old oracle table event.Answered new oracle' table' = Answers old table new × TableStays oracle table oracle' table'
 Tells old oracle table event.Met new oracle' table' = Meets old table new × TableStays oracle table oracle' table'
 Tells old oracle table (event.Recovers told) new oracle' table' = Recovers old table told new table' × (oracle' ≡ oracle)
+Tells old oracle table (event.Put applied) new oracle' table' = Puts old table applied new table' × (oracle' ≡ oracle)
 Tells old oracle table (event.Writes told) new oracle' table' = Writes old oracle table told new oracle' table'
 
 -- an event of a recovery exactly where there is one
@@ -171,6 +195,7 @@ is_recovery event.Rests = false
 is_recovery event.Answered = false
 is_recovery event.Met = false
 is_recovery (event.Recovers told) = true
+is_recovery (event.Put applied) = false
 is_recovery (event.Writes told) = false
 
 -- the actor has made moves that the rules allow, and nothing else has changed
@@ -195,6 +220,7 @@ abbrev pub task_calls : Task → Option Block → Table → ℕ
 task_calls Rest oracle table = 0
 task_calls (Get key) oracle table = 1
 task_calls (Next range) oracle table = 1
+task_calls (Put key plain) oracle table = 1
 task_calls (Write progress) oracle table = step_calls (due progress) oracle table
 
 -- where there is a recovery its step makes one

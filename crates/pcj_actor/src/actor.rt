@@ -1,8 +1,8 @@
-ghost use Rattle.std.specs.Prelude.{◌≡◌, ◌⊎◌, ℕ, [], ◌∷◌, true, false, is_some, Some, None, Ok, IfOk, OnOk, OnErr};
+ghost use Rattle.std.specs.Prelude.{◌≡◌, ◌≢◌, ◌⊎◌, ℕ, [], ◌∷◌, true, false, is_some, Some, None, Ok, IfOk, OnOk, OnErr};
 ghost use Rattle.pcj_table.specs.declared.lock.Lock.{Lock};
 ghost use Rattle.pcj_table.specs.Calls.{counted};
 ghost use Rattle.pcj_table.specs.Table.{Key, row_at};
-ghost use Rattle.pcj_oracle.specs.Clock.{IsClock};
+ghost use Rattle.pcj_oracle.specs.Clock.{IsClock, clock_key};
 ghost use Rattle.pcj_oracle.specs.Draw.{Keeps};
 ghost use Rattle.pcj_mvcc.specs.Times.{TimesInOrder};
 ghost use Rattle.pcj_moves.specs.declared.answer.Answer.{Answer};
@@ -17,13 +17,14 @@ ghost use Rattle.pcj_actor.specs.declared.told.Told.TheVariants.{Answered, Met};
 ghost use Rattle.pcj_actor.specs.Progress.{new_progress, Moved, Carries, IsReading, Recovers, Tells, is_recovery, told_event, MakesUpTo, task_calls, calls_of, with_task, with_held, with_met};
 
 use crate::ActorEvent;
+use crate::put::put_plain;
 use crate::task::Task;
 use crate::told::{Told, read_range, read_row};
 use pcj_encode::KeyRange;
 use pcj_moves::Answer;
 use pcj_oracle::Oracle;
 use pcj_recover::{Recovery, RecoveryEvent};
-use pcj_table::{RowTable, TableError, Write};
+use pcj_table::{Plain, RowTable, TableError, Write};
 use pcj_term::{Bytes, Items};
 use pcj_txn::{Txn, TxnError, TxnEvent};
 use std::alloc::Global;
@@ -79,6 +80,17 @@ impl Actor {
         ensures same { self.new.actor ≡ self.old.actor }
     {
         self.task = Task::Next(range);
+    }
+
+    /// Writes this plain value next on the row of this key, where none of its number or a later one stands. The row isn't
+    /// the clock's.
+    pub fn put(&mut self, key: Bytes, plain: Plain)
+        requires nothing { self.old.actor.transaction ≡ new_transaction [] }
+        requires row { key ≢ clock_key }
+        ensures task { self.new ≡ with_task self.old (doing.Put key plain) }
+        ensures same { self.new.actor ≡ self.old.actor }
+    {
+        self.task = Task::Put { key, plain };
     }
 
     /// Carries out a transaction of these writes next, whose rows are distinct. It is the actor's only one.
@@ -173,6 +185,11 @@ impl Actor {
             Task::Next(range) => {
                 let told = read_range(self.alloc, table, range, self.start)?;
                 Ok(self.hold(told)?)
+            }
+            Task::Put { key, plain } => {
+                let applied = put_plain(self.alloc, table, key, plain)?;
+                self.task = Task::Rest;
+                Ok(ActorEvent::Put { applied })
             }
             Task::Write(txn) => match txn.step(table, oracle)? {
                 TxnEvent::MetLock { key, lock } => {

@@ -12,6 +12,8 @@ pub enum ActorEvent {
     Met,
     /// A step was made to take a lock away.
     Recovers(RecoveryEvent),
+    /// The plain value is written, or else one of its number or a later one stands.
+    Put { applied: bool },
     /// A step of the transaction.
     Writes(TxnEvent),
 }

@@ -1,5 +1,5 @@
-//! A client at work beside others: it reads at its start, carries out one transaction, and takes away each lock that it
-//! meets on the way, a step at a time.
+//! A client at work beside others: it reads at its start, writes plain values, carries out one transaction, and takes
+//! away each lock that it meets on the way, a step at a time.
 //!
 //! Whoever else is at work, a step is a move or two of those that the rules of `pcj_moves` allow; so what is said there
 //! of moves and runs holds of it. The transactions are Percolator's (OSDI 2010, section 2.2).
@@ -7,6 +7,7 @@
 
 mod actor;
 mod event;
+mod put;
 mod steps;
 mod task;
 mod told;

@@ -1,4 +1,5 @@
 use pcj_encode::KeyRange;
+use pcj_table::Plain;
 use pcj_term::Bytes;
 use pcj_txn::Txn;
 
@@ -11,6 +12,8 @@ pub enum Task {
     Get(Bytes),
     /// A read of the first row of this range in which something is seen.
     Next(KeyRange),
+    /// A write of this plain value on the row of this key.
+    Put { key: Bytes, plain: Plain },
     /// This transaction.
     Write(Txn),
 }

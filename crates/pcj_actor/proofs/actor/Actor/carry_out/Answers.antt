@@ -2,7 +2,7 @@ use Rattle.std.proofs.Common.{refl, sym, subst, ap, ◌∙◌}
 use Rattle.pcj_table.specs.Table.{row_at}
 use Rattle.pcj_actor.specs.declared.task.Task.TheVariants.{Get, Next}
 use Rattle.pcj_actor.specs.Progress.{Progress, ReadsNoPlain}
-use Rattle.pcj_actor.proofs.ActorLemmas.{progress_as, read_calls, txn_calls, held_tells, written_tells, read_is_held, txn_goes_on, txn_meets}
+use Rattle.pcj_actor.proofs.ActorLemmas.{progress_as, put_moves, put_keeps_clock, read_calls, txn_calls, held_tells, written_tells, read_is_held, txn_goes_on, txn_meets}
 use Rattle.pcj_actor.proofs.actor.Actor.carry_out.Goals as goal
 
 pub returns-in_ok-hold-in-Get-clause-tells : goal.returns-in_ok-hold-in-Get-clause-tells
@@ -63,3 +63,12 @@ returns-in_err-hold-in-Next-clause-calls g c = read_calls c.args.self.now (Next 
 
 pub returns-in_ok-hold-in-Next-clause-calls : goal.returns-in_ok-hold-in-Next-clause-calls
 returns-in_ok-hold-in-Next-clause-calls g c = read_calls c.args.self.now (Next c.in-Next.range) c.args.oracle.now _ _ _ (ap (λ (p : Progress). p.task) (sym c.self.view_is) ∙ c.in-Next.is) tt (c.in_ok-told-in-Next.ensures {u = tt}).most
+
+pub returns-in_ok-applied-in-Put-clause-moves : goal.returns-in_ok-applied-in-Put-clause-moves
+returns-in_ok-applied-in-Put-clause-moves g c others plain is =
+    put_moves c.args.oracle.now _ _ c.args.self.now c.self.inside.start c.self.inside.answers c.self.inside.task c.self.inside.recovery c.in-Put.key c.in-Put.plain c.in_ok-applied-in-Put.applied
+    c.self.view_is c.in-Put.is c.self.invariant (c.in_ok-applied-in-Put.ensures {u = tt}).done
+
+pub returns-in_ok-applied-in-Put-clause-clock : goal.returns-in_ok-applied-in-Put-clause-clock
+returns-in_ok-applied-in-Put-clause-clock g c =
+    put_keeps_clock c.args.oracle.now (g.T.RowTable.rows c.args.table.now) _ c.self.inside.start c.self.inside.task c.in-Put.key c.in-Put.plain c.in_ok-applied-in-Put.applied c.in-Put.is c.self.invariant (c.in_ok-applied-in-Put.ensures {u = tt}).done c.requires
