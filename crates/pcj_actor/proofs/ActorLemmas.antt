@@ -30,6 +30,9 @@ use Rattle.pcj_txn.specs.Steps.{Steps as TxnSteps, MeetsLock, Stays}
 use Rattle.pcj_recover.specs.Progress.{new_progress as new_recovery_progress}
 use Rattle.pcj_oracle.specs.declared.block.Block.{Block}
 use Rattle.pcj_oracle.specs.Clock.{clock_key, clock_number, stored_number, next_at, next_number, IsClock, IsClockAt}
+use Rattle.pcj_moves.proofs.ConsistencyLemmas.{moves_are_consistent}
+use Rattle.pcj_moves.proofs.ReadLemmas.{moves_leave_read}
+use Rattle.pcj_actor.specs.ActorLaws.{CarriedIsConsistent, CarriedLeavesRead}
 use Rattle.pcj_moves.proofs.StepLemmas.{met_is_other, nothing_is_free}
 use Rattle.pcj_actor.specs.declared.event.ActorEvent.{ActorEvent}
 use Rattle.pcj_actor.specs.declared.told.Told.{Told}
@@ -267,3 +270,15 @@ put_moves oracle table table' self start answers task recovery key plain applied
         (moves : List Move) × Makes moves (next_number oracle table) (row_at table) self.actor (next_number oracle table') (row_at table') (actor_of start answers (new_transaction []) recovery)
     by true made = (WritePlain key plain ∷ [], (tt, (number, made.1, same)))
     by false left = ([], (number, ap row_at left.1, same))
+
+-- ---- what a step leaves of all others
+
+pub carried_is_consistent : CarriedIsConsistent
+carried_is_consistent old new oracle oracle' table table' others carries plain is =
+    let moved = carries others plain is in
+    moves_are_consistent moved.0 (next_number oracle table) (row_at table) old.actor (next_number oracle' table') (row_at table') new.actor others moved.1 is
+
+pub carried_leaves_read : CarriedLeavesRead
+carried_leaves_read old new oracle oracle' table table' others time answers carries plain is lower kept =
+    let moved = carries others plain is in
+    moves_leave_read moved.0 (next_number oracle table) (row_at table) old.actor (next_number oracle' table') (row_at table') new.actor others time answers moved.1 is lower kept

@@ -14,4 +14,4 @@ mod told;
 
 pub use actor::Actor;
 pub use event::ActorEvent;
-pub use steps::steps_are_moves;
+pub use steps::{actors_keep_all, steps_are_moves};
