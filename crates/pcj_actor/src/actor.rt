@@ -1,8 +1,11 @@
-ghost use Rattle.std.specs.Prelude.{◌≡◌, ◌≢◌, ◌⊎◌, ℕ, [], ◌∷◌, true, false, is_some, Some, None, Ok, IfOk, OnOk, OnErr};
+ghost use Rattle.std.specs.Prelude.{◌≡◌, ◌≢◌, ◌⊎◌, ℕ, [], ◌∷◌, true, false, is_some, Some, None, Ok, IfOk, OnOk, OnErr, IfErr, IsErrOf, ◌^◌};
 ghost use Rattle.pcj_table.specs.declared.lock.Lock.{Lock};
-ghost use Rattle.pcj_table.specs.Calls.{counted};
+ghost use Rattle.pcj_table.specs.Calls.{counted, HasTableCause};
+ghost use Rattle.pcj_table.specs.declared.error.TableError.TheVariants as table_error;
+ghost use Rattle.pcj_txn.specs.declared.error.TxnError.TheVariants.{Spent};
+ghost use Rattle.pcj_txn.specs.Errors.{HasTxnCause};
 ghost use Rattle.pcj_table.specs.Table.{Key, row_at};
-ghost use Rattle.pcj_oracle.specs.Clock.{IsClock, clock_key};
+ghost use Rattle.pcj_oracle.specs.Clock.{IsClock, clock_key, next_number};
 ghost use Rattle.pcj_oracle.specs.Draw.{Keeps};
 ghost use Rattle.pcj_mvcc.specs.Times.{TimesInOrder};
 ghost use Rattle.pcj_moves.specs.declared.answer.Answer.{Answer};
@@ -129,6 +132,10 @@ impl Actor {
         ensures kept { OnErr result (Keeps oracle.old (T.rows table.old) oracle.new (T.rows table.new)) }
         ensures clock { IsClock oracle.new (T.rows table.new) }
 
+        // When each error comes.
+        ensures spent { IsErrOf result Spent → next_number oracle.old (T.rows table.old) ≡ 2 ^ 48 }
+        ensures cause { HasTxnCause (T.failures table.old) (T.failures table.new) result }
+
         // The calls of the table.
         ensures calls { MakesUpTo (calls_of self.old oracle.old (T.rows table.old)) (T.made table.old) (T.made table.new) }
     {
@@ -144,6 +151,7 @@ impl Actor {
         ensures same { OnErr result (self.new ≡ self.old) }
         ensures err { OnErr result (T.rows table.new ≡ T.rows table.old) }
         ensures there { OnErr result (is_some self.old.actor.recovery ≡ true) }
+        ensures cause { HasTableCause (T.failures table.old) (T.failures table.new) result }
         ensures plain { KeepPlain (T.rows table.old) (T.rows table.new) }
         ensures some { (event : RecoveryEvent) → result ≡ Ok (Some event) → Recovers self.old (T.rows table.old) event self.new (T.rows table.new) }
         ensures most { (T.made table.new ≡ T.made table.old) ⊎ (T.made table.new ≡ counted (T.made table.old)) }
@@ -174,6 +182,8 @@ impl Actor {
         ensures same { OnErr result (self.new ≡ self.old) }
         ensures kept { OnErr result (Keeps oracle.old (T.rows table.old) oracle.new (T.rows table.new)) }
         ensures clock { IsClock oracle.new (T.rows table.new) }
+        ensures spent { IsErrOf result Spent → next_number oracle.old (T.rows table.old) ≡ 2 ^ 48 }
+        ensures cause { HasTxnCause (T.failures table.old) (T.failures table.new) result }
         ensures calls { MakesUpTo (task_calls self.old.task oracle.old (T.rows table.old)) (T.made table.old) (T.made table.new) }
     {
         match &mut self.task {
@@ -207,6 +217,7 @@ impl Actor {
         ensures answer { (answer : Answer) → told ≡ Answered answer → OnOk result (self.new ≡ with_held self.old answer) }
         ensures met { (key : Key) (lock : Lock) → told ≡ Met key lock → OnOk result (self.new ≡ with_met self.old key lock) }
         ensures same { OnErr result (self.new ≡ self.old) }
+        ensures memory { IfErr result (λ error. error ≡ table_error.Memory) }
         ensures event { IfOk result (λ event. event ≡ told_event told) }
     {
         match told {

@@ -1,5 +1,5 @@
 ghost use Rattle.std.specs.Prelude.{◌≡◌, ◌⊎◌, IfOk, OnErr};
-ghost use Rattle.pcj_table.specs.Calls.{counted};
+ghost use Rattle.pcj_table.specs.Calls.{counted, HasTableCause};
 ghost use Rattle.pcj_actor.specs.Progress.{IsPut, plain_act};
 
 use pcj_mvcc::Act;
@@ -28,6 +28,7 @@ pub(crate) fn put_plain<T: RowTable>(
 ) -> Result<bool, TableError>
     ensures done { IfOk result (λ applied. IsPut applied key.now plain.now (T.rows table.old) (T.rows table.new)) }
     ensures err { OnErr result (T.rows table.new ≡ T.rows table.old) }
+    ensures cause { HasTableCause (T.failures table.old) (T.failures table.new) result }
     ensures most { (T.made table.new ≡ T.made table.old) ⊎ (T.made table.new ≡ counted (T.made table.old)) }
 {
     let act = put_act(alloc, plain)?;

@@ -1,5 +1,5 @@
 ghost use Rattle.std.specs.Prelude.{◌≡◌, ◌⊎◌, IfOk};
-ghost use Rattle.pcj_table.specs.Calls.{counted};
+ghost use Rattle.pcj_table.specs.Calls.{counted, HasTableCause};
 ghost use Rattle.pcj_table.specs.Table.{row_at};
 ghost use Rattle.pcj_mvcc.specs.Times.{TimesInOrder};
 ghost use Rattle.pcj_actor.specs.Progress.{ReadsNoPlain, IsTold, IsToldOf};
@@ -31,6 +31,7 @@ pub(crate) fn read_row<T: RowTable>(
     ensures told { TimesInOrder (row_at (T.rows table.old)) → IfOk result (λ told. IsTold told at (row_at (T.rows table.old))) }
     ensures of { IfOk result (λ told. IsToldOf (Get key.now) told) }
     ensures rows { T.rows table.new ≡ T.rows table.old }
+    ensures cause { HasTableCause (T.failures table.old) (T.failures table.new) result }
     ensures most { (T.made table.new ≡ T.made table.old) ⊎ (T.made table.new ≡ counted (T.made table.old)) }
 {
     let mut read = SnapRead::get(alloc, key.try_clone(alloc)?, at);
@@ -53,6 +54,7 @@ pub(crate) fn read_range<T: RowTable>(
     ensures told { TimesInOrder (row_at (T.rows table.old)) → ReadsNoPlain (Next range.now) (row_at (T.rows table.old)) → IfOk result (λ told. IsTold told at (row_at (T.rows table.old))) }
     ensures of { IfOk result (λ told. IsToldOf (Next range.now) told) }
     ensures rows { T.rows table.new ≡ T.rows table.old }
+    ensures cause { HasTableCause (T.failures table.old) (T.failures table.new) result }
     ensures most { (T.made table.new ≡ T.made table.old) ⊎ (T.made table.new ≡ counted (T.made table.old)) }
 {
     let mut read = SnapRead::next(alloc, range.try_clone(alloc)?, at);

@@ -49,6 +49,8 @@ returns-in_default g c = record {
   same = tt;
   kept = tt;
   clock = (c.in_ok-event-in-Write.ensures {u = tt}).clock;
+  spent = λ is. absurd cc;
+  cause = record { later = (c.in_ok-event-in-Write.ensures {u = tt}).cause.later; failed = λ is. absurd cc };
   calls = txn_calls c.args.self.now c.in-Write.txn c.args.oracle.now _ _ _ _ (ap (λ (p : Progress). p.task) (sym c.self.view_is) ∙ c.in-Write.is) (c.in_ok-event-in-Write.ensures {u = tt}).calls;
 }
 

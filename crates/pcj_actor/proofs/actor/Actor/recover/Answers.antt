@@ -11,6 +11,7 @@ returns-in_default-2 g c = record {
   same = tt;
   err = tt;
   there = tt;
+  cause = record { later = (c.in_ok-ended.ensures {u = tt}).cause.later; failed = λ is. absurd cc };
   plain = (c.in_ok-ended.ensures {u = tt}).plain;
   some = λ event told. recovered_last _ c.self.inside.start c.self.inside.answers c.self.inside.task c.self.inside.recovery c.in-Some.recovery c.step.new.self _ _ c.in_ok-ended.ended event c.self.view_is c.in-Some.is (c.in_ok-ended.ensures {u = tt}).step c.in_default-2.not-Working cc;
   most = (c.in_ok-ended.ensures {u = tt}).most;
