@@ -3,3 +3,4 @@ pub mod Clauses
 pub mod Runs
 pub mod Readings
 pub mod ReadSteps
+pub mod Unambiguous

@@ -110,7 +110,7 @@ run_complete (l ∷ ls) e more done =
 -- ---- the end
 
 -- whether a form may have no token
-abbrev nullable : Form → Bool
+abbrev pub nullable : Form → Bool
 nullable (word k) = false
 nullable (name n) = false
 nullable (both f h) = nullable f && nullable h
@@ -118,7 +118,7 @@ nullable (either f h) = nullable f || nullable h
 nullable (maybe f) = true
 nullable (many f) = true
 
-no_production_empty : (n : Name) → nullable (production n) ≡ false
+pub no_production_empty : (n : Name) → nullable (production n) ≡ false
 no_production_empty g.Query = refl
 no_production_empty g.Item = refl
 no_production_empty g.Func = refl

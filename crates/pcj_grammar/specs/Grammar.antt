@@ -1,5 +1,5 @@
 -- The grammar of the profile (SPARQL 1.1 Query, section 19.8, in part): a row for each production, and what a derivation is.
-use Rattle.std.specs.Prelude.{◌≡◌, List, ◌∷◌}
+use Rattle.std.specs.Prelude.{◌≡◌, List, [], ◌∷◌}
 use Rattle.pcj_grammar.specs.declared.lexeme.Lexeme.{Lexeme}
 use Rattle.pcj_grammar.specs.declared.terminal.Terminal.{Terminal}
 use Rattle.pcj_grammar.specs.declared.terminal.Terminal.TheVariants as t
@@ -77,3 +77,7 @@ pub data Derives : Form → List Lexeme → List Lexeme → Type 0 where
   with_it : {f : Form} {x y : List Lexeme} → Derives f x y → Derives (maybe f) x y
   end : {f : Form} {x : List Lexeme} → Derives (many f) x x
   again : {f : Form} {x y z : List Lexeme} → Derives f x y → Derives (many f) y z → Derives (many f) x z
+
+-- a list of tokens is a query in one way at most
+abbrev pub IsUnambiguous : Type 0
+IsUnambiguous = (ls : List Lexeme) (d e : Derives (name Query) ls []) → d ≡ e
