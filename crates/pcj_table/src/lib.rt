@@ -5,6 +5,7 @@
 //! answers and changes, so that whatever meets them carries all that is proved above.
 #![tactic(auto)]
 
+mod call;
 mod cond;
 mod error;
 mod found;
@@ -18,6 +19,7 @@ mod update;
 mod version;
 mod write;
 
+pub use call::begin_call;
 pub use cond::Cond;
 pub use error::TableError;
 pub use found::Found;
