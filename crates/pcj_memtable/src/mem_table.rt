@@ -9,8 +9,8 @@ ghost use Rattle.pcj_table.specs.declared.error.TableError.TheVariants.{Failed};
 ghost use Rattle.pcj_sorted.specs.Entries.{table_of};
 
 use pcj_io::FailingCalls;
-use pcj_sorted::{count_between, mutate, next_locked, next_seen, row_of};
-use pcj_table::{Cond, Found, Mutated, Row, RowTable, TableError, Update};
+use pcj_sorted::{copied, count_between, mutate, next_locked, next_seen, row_of};
+use pcj_table::{Cond, Found, Mutated, Row, RowTable, TableError, Update, begin_call};
 use pcj_term::Items;
 use std::alloc::Global;
 use std::marker::Model;
@@ -66,7 +66,7 @@ impl RowTable for MemTable {
         ensures next { IsNextCall self.old.calls self.new.calls (has_failed result) }
         ensures never { self.old.calls.failing ≡ [] → has_failed result ≡ false }
     {
-        begin(&mut self.calls)?;
+        begin_call(&mut self.calls)?;
         Ok(row_of(self.alloc, &self.rows, key)?)
     }
 
@@ -78,8 +78,9 @@ impl RowTable for MemTable {
         ensures next { IsNextCall self.old.calls self.new.calls (has_failed result) }
         ensures never { self.old.calls.failing ≡ [] → has_failed result ≡ false }
     {
-        begin(&mut self.calls)?;
-        Ok(next_seen(self.alloc, &self.rows, after, end, at)?)
+        begin_call(&mut self.calls)?;
+        let found = next_seen(&self.rows, after, end, at);
+        Ok(copied(self.alloc, found)?)
     }
 
     fn next_lock(&mut self, after: &[u8]) -> Result<Option<Found>, TableError>
@@ -90,8 +91,9 @@ impl RowTable for MemTable {
         ensures next { IsNextCall self.old.calls self.new.calls (has_failed result) }
         ensures never { self.old.calls.failing ≡ [] → has_failed result ≡ false }
     {
-        begin(&mut self.calls)?;
-        Ok(next_locked(self.alloc, &self.rows, after)?)
+        begin_call(&mut self.calls)?;
+        let found = next_locked(&self.rows, after);
+        Ok(copied(self.alloc, found)?)
     }
 
     fn count(&mut self, from: &[u8], end: &[u8]) -> Result<u64, TableError>
@@ -103,7 +105,7 @@ impl RowTable for MemTable {
         ensures memory { IfErr result (λ e. e ≡ Failed) }
         ensures never { self.old.calls.failing ≡ [] → IsOk result }
     {
-        begin(&mut self.calls)?;
+        begin_call(&mut self.calls)?;
         Ok(count_between(&self.rows, from, end) as u64)
     }
 
@@ -123,7 +125,7 @@ impl RowTable for MemTable {
         ensures drops { updates.now ≡ DropLock ∷ [] → conds_hold (row_at (table_of self.old.rows) key.now) conds.now ≡ true → IfErr result (λ e. e ≡ Failed) }
         ensures sure { self.old.calls.failing ≡ [] → updates.now ≡ DropLock ∷ [] → conds_hold (row_at (table_of self.old.rows) key.now) conds.now ≡ true → IsOk result }
     {
-        begin(&mut self.calls)?;
+        begin_call(&mut self.calls)?;
         Ok(mutate(self.alloc, &mut self.rows, key, conds, updates)?)
     }
 
@@ -134,17 +136,4 @@ impl RowTable for MemTable {
     fn calls(&self) -> u64 {
         self.calls.made()
     }
-}
-
-/// Counts one call, which fails where its number was chosen.
-fn begin(calls: &mut FailingCalls) -> Result<(), TableError>
-    ensures next { IsNextCall calls.old calls.new (is_err result) }
-    ensures cause { HasTableCause calls.old.faults calls.new.faults result }
-    ensures failed { IfErr result (λ e. e ≡ Failed) }
-    ensures never { calls.old.failing ≡ [] → IsOk result }
-{
-    if calls.next_fails() {
-        return Err(TableError::Failed);
-    }
-    Ok(())
 }

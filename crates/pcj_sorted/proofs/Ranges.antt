@@ -18,7 +18,7 @@ use Rattle.pcj_sorted.proofs.Edits.{equals}
 use Rattle.pcj_sorted.proofs.Tables.{entries_are}
 
 -- rows above a low key are above and from any key at or below it, and none is below it
-above_low : (key low : Key) (rows : List Found) → bytes_cmp key low ≡ Less → below_all bytes_cmp low (entries_of rows) ≡ true → below_all bytes_cmp key (entries_of rows) ≡ true
+pub above_low : (key low : Key) (rows : List Found) → bytes_cmp key low ≡ Less → below_all bytes_cmp low (entries_of rows) ≡ true → below_all bytes_cmp key (entries_of rows) ≡ true
 above_low key low [] lt all = refl
 above_low key low (row ∷ rows) lt all =
     let first = nat_list_cmp_total.trans key low row.key lt (less_is _ (and_parts _ _ all).0) in

@@ -14,6 +14,6 @@ mod walk;
 pub use mutation::{change, mutate};
 pub use place::place_of;
 pub use range::{rows_above, rows_below, rows_from};
-pub use read::row_of;
+pub use read::{row_of, shown};
 pub use row_change::RowChange;
-pub use walk::{count_between, next_locked, next_seen};
+pub use walk::{copied, count_between, next_locked, next_seen};

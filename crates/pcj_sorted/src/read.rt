@@ -18,8 +18,8 @@ pub fn row_of(alloc: Global, rows: &[Found], key: &[u8]) -> Result<Option<Row>, 
     }
 }
 
-/// A copy of a row, where it has anything.
-fn shown(alloc: Global, row: &Row) -> Result<Option<Row>, Memory>
+/// A copy of a row as a read gives it: none where the row has nothing.
+pub fn shown(alloc: Global, row: &Row) -> Result<Option<Row>, Memory>
     ensures { IfOk result (λ copy. copy ≡ shown row.now) }
 {
     if row.has_nothing() {

@@ -1,5 +1,4 @@
 use Rattle.std.proofs.Common.{◌∙◌, is_some}
-use Rattle.std.proofs.lemmas.Result.{IfOk-weaker}
 use Rattle.pcj_table.specs.Table.{is_before}
 use Rattle.pcj_sorted.proofs.Ranges.{found_where}
 use Rattle.pcj_sorted.proofs.walk.next_locked.Goals as goal
@@ -7,4 +6,4 @@ use Rattle.pcj_sorted.proofs.walk.next_locked.Goals as goal
 pub returns : goal.returns
 returns c =
     let found = found_where (λ key. is_before c.args.after.now key) (λ row. is_some row.lock) c.args.rows.now c.rows_above.result.now c.requires c.rows_above.ensures in
-    IfOk-weaker c.first_locked.result _ _ (λ row same. same ∙ found) c.first_locked.ensures
+    c.first_locked.ensures ∙ found

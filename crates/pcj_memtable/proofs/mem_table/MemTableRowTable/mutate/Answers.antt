@@ -22,8 +22,8 @@ returns-in_err-mutate-clause-sure c empty updates holds =
     let wrong = rw failed at fine in
     absurd cc
 
-pub returns-in_err-begin-clause-keys : goal.returns-in_err-begin-clause-keys
-returns-in_err-begin-clause-keys c =
+pub returns-in_err-begin_call-clause-keys : goal.returns-in_err-begin_call-clause-keys
+returns-in_err-begin_call-clause-keys c =
     let many = as_many c.self.inside.rows.items c.self.invariant in
     omega (arith, many, c.self.inside.rows.ok.0, c.self.inside.rows.ok.1, c.self.inside.rows.small)
 
