@@ -1,0 +1,5 @@
+pub mod Adding
+pub mod Pages
+pub mod Search
+pub mod Summary
+pub mod Walk
