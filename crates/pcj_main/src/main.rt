@@ -37,7 +37,7 @@
 #![tactic(auto)]
 
 use pcj_io::{StdSink, StdSource};
-use pcj_memtable::MemTable;
+use pcj_pages::PageTable;
 use pcj_replay::{is_replay, replay};
 use pcj_term::Items;
 use std::alloc::AllocError;
@@ -85,7 +85,7 @@ fn main(rt: HostRuntime) -> ExitCode {
             let mut source = StdSource::new(rt.stdin());
             let mut sink = StdSink::new(rt.stdout());
             // none of its calls is to fail
-            let mut table = MemTable::new(rt.alloc(), Items::new(rt.alloc()));
+            let mut table = PageTable::new(rt.alloc(), Items::new(rt.alloc()));
             let status = replay(rt.alloc(), &words, &mut source, &mut sink, &mut table);
             (status, is_replay(&words))
         }
