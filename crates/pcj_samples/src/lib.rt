@@ -1,8 +1,8 @@
 //! Cases that neither a script nor a single call shows: faults in mid-stream and what they leave, walks and mutations of
 //! a table, oracles and loads that are cut short. README.md says how one is added.
 //!
-//! What speaks of a table is generic over `RowTable`, and `mem_table` runs it over a table in memory. Another table gets
-//! one more such file.
+//! What speaks of a table is generic over `RowTable`: `mem_table` runs it over a vector in memory, and `page_table` over
+//! pages. Another table gets one more such file.
 #![tactic(auto)]
 
 #[cfg(test)]
@@ -25,6 +25,12 @@ mod mem_table;
 mod mutations;
 #[cfg(test)]
 mod oracles;
+#[cfg(test)]
+mod page_scripts;
+#[cfg(test)]
+mod page_table;
+#[cfg(test)]
+mod pages;
 #[cfg(test)]
 mod rows;
 #[cfg(test)]

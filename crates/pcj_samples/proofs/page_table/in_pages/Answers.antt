@@ -1,0 +1,7 @@
+use Rattle.std.proofs.Common.{subst, sym}
+use Rattle.pcj_replay.specs.Session.{IsFresh}
+use Rattle.pcj_replay.proofs.EmptyTable.{nothing_fresh}
+use Rattle.pcj_samples.proofs.page_table.in_pages.Goals as goal
+
+pub returns : goal.returns
+returns c = subst IsFresh (sym c.new.ensures.empty) nothing_fresh
