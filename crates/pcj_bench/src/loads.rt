@@ -1,11 +1,13 @@
 ghost use Rattle.std.specs.Prelude.{None, OnOk};
 ghost use Rattle.pcj_load.specs.Transaction.{IsAtRest};
 
+use crate::engine::Engine;
 use crate::failure::Failure;
 use pcj_load::load_triples;
 use pcj_memtable::MemTable;
 use pcj_ntriples::read_document;
 use pcj_oracle::{Oracle, OracleError};
+use pcj_pages::PageTable;
 use pcj_rowtables::triple_rows;
 use pcj_table::{Cond, Plain, RowTable, Update};
 use pcj_term::{Bytes, Items, Triple};
@@ -19,6 +21,7 @@ const DOCUMENT: u32 = 1_000;
 /// How long it took to load triples into a table, and to put their rows there in the same order without a load.
 #[derive(Clone, Copy)]
 pub struct LoadTimes {
+    engine: Engine,
     triples: u32,
     calls: u64,
     loads: Duration,
@@ -43,7 +46,8 @@ impl fmt::Display for LoadTimes {
         let share = quotient(self.insertions.as_micros().saturating_mul(100), time);
         write!(
             f,
-            "{triples} triples: {rate} triples/s, {}.{:03} table calls a triple, insertions alone {share} % of the time",
+            "{}, {triples} triples: {rate} triples/s, {}.{:03} table calls a triple, insertions alone {share} % of the time",
+            self.engine,
             calls / 1_000,
             calls % 1_000
         )
@@ -60,15 +64,17 @@ fn quotient(dividend: u128, divisor: u128) -> u128 {
 pub fn measure_loads(
     clock: &impl Clock,
     alloc: Global,
+    engine: Engine,
     triples: u32,
 ) -> Result<LoadTimes, Failure> {
     let documents = documents(alloc, triples)?;
-    let (loads, calls) = time_loads(clock, alloc, &documents)?;
+    let (loads, calls) = time_loads(clock, alloc, engine, &documents)?;
     Ok(LoadTimes {
+        engine,
         triples,
         calls,
         loads,
-        insertions: time_insertions(clock, alloc, &documents)?,
+        insertions: time_insertions(clock, alloc, engine, &documents)?,
     })
 }
 
@@ -76,11 +82,27 @@ pub fn measure_loads(
 fn time_loads(
     clock: &impl Clock,
     alloc: Global,
+    engine: Engine,
     documents: &[String],
 ) -> Result<(Duration, u64), Failure> {
-    let mut table = MemTable::new(alloc, Items::new(alloc));
+    let none = Items::new(alloc);
+    match engine {
+        Engine::Vector => load_into(clock, alloc, &mut MemTable::new(alloc, none), documents),
+        Engine::Pages => load_into(clock, alloc, &mut PageTable::new(alloc, none), documents),
+    }
+}
+
+/// How long it takes to load the documents into a table, and how many of its calls it has had then.
+fn load_into<T: RowTable>(
+    clock: &impl Clock,
+    alloc: Global,
+    table: &mut T,
+    documents: &[String],
+) -> Result<(Duration, u64), Failure>
+    requires { IsAtRest None (T.rows table.old) }
+{
     let begun = Instant::now(clock)?;
-    load_documents(alloc, &mut table, documents)?;
+    load_documents(alloc, table, documents)?;
     Ok((begun.elapsed(clock)?, table.calls()))
 }
 
@@ -88,12 +110,26 @@ fn time_loads(
 fn time_insertions(
     clock: &impl Clock,
     alloc: Global,
+    engine: Engine,
     documents: &[String],
 ) -> Result<Duration, Failure> {
     let keys = keys_of(alloc, documents)?;
-    let mut table = MemTable::new(alloc, Items::new(alloc));
+    let none = Items::new(alloc);
+    match engine {
+        Engine::Vector => put_into(clock, alloc, &mut MemTable::new(alloc, none), &keys),
+        Engine::Pages => put_into(clock, alloc, &mut PageTable::new(alloc, none), &keys),
+    }
+}
+
+/// How long it takes to put rows at the keys.
+fn put_into<T: RowTable>(
+    clock: &impl Clock,
+    alloc: Global,
+    table: &mut T,
+    keys: &[Bytes],
+) -> Result<Duration, Failure> {
     let begun = Instant::now(clock)?;
-    put_rows(alloc, &mut table, &keys)?;
+    put_rows(alloc, table, keys)?;
     Ok(begun.elapsed(clock)?)
 }
 

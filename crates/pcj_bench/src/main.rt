@@ -8,6 +8,7 @@
 #![tactic(auto)]
 
 mod document;
+mod engine;
 mod failure;
 mod join;
 mod loads;
@@ -20,6 +21,7 @@ mod split;
 mod steps;
 
 use document::measure_document;
+use engine::Engine;
 use failure::Failure;
 use join::measure_join;
 use loads::measure_loads;
@@ -30,44 +32,39 @@ use split::measure_split;
 use std::alloc::Global;
 use std::env;
 use std::fmt::Display;
+use std::str::FromStr;
 use steps::measure_steps;
 
 fn main(rt: HostRuntime) -> Result<(), Failure> {
-    let name = env::args(&rt)?.nth(1);
-    measure(&rt, name.as_ref().map(|name| name.as_str()))
+    let mut words = env::args(&rt)?;
+    let (name, engine, size) = (words.nth(1), words.next(), words.next());
+    let engine = Engine::named(engine.as_ref().map_or("", |word| word.as_str()));
+    let size = size.as_ref().map_or("", |word| word.as_str());
+    measure(
+        &rt,
+        name.as_ref().map_or("", |word| word.as_str()),
+        engine,
+        size.parse::<u32>().unwrap_or(1_000),
+    )
 }
 
 /// Makes the measure of a name, and shows its figures.
-fn measure(rt: &HostRuntime, name: Option<&str>) -> Result<(), Failure> {
+fn measure(rt: &HostRuntime, name: &str, engine: Engine, size: u32) -> Result<(), Failure> {
     let alloc = rt.alloc();
     match name {
-        Some("print_term") => show(rt, measure_print(rt, alloc)?),
-        Some("read_term") => show(rt, measure_read(rt, alloc)?),
-        Some("join_parts") => show(rt, measure_join(rt, alloc)?),
-        Some("split_parts") => show(rt, measure_split(rt, alloc)?),
-        Some("read_document") => show(rt, measure_document(rt, alloc, rt.stdin())?),
-        Some("row_table") => show_row_table(rt, alloc),
-        Some("loads") => show_loads(rt, alloc),
-        Some("steps") => show_steps(rt, alloc),
+        "print_term" => show(rt, measure_print(rt, alloc)?),
+        "read_term" => show(rt, measure_read(rt, alloc)?),
+        "join_parts" => show(rt, measure_join(rt, alloc)?),
+        "split_parts" => show(rt, measure_split(rt, alloc)?),
+        "read_document" => show(rt, measure_document(rt, alloc, rt.stdin())?),
+        "row_table" => show(rt, measure_row_table(rt, alloc, engine, size)?),
+        "loads" => show(rt, measure_loads(rt, alloc, engine, size)?),
+        "steps" => show_steps(rt, alloc),
         _ => show(
             rt,
-            "usage: pcj_bench print_term|read_term|join_parts|split_parts|read_document|row_table|loads|steps",
+            "usage: pcj_bench print_term|read_term|join_parts|split_parts|read_document|steps, or pcj_bench row_table|loads vector|pages SIZE",
         ),
     }
-}
-
-fn show_row_table(rt: &HostRuntime, alloc: Global) -> Result<(), Failure> {
-    for (rows, rounds) in [(1_000, 100), (10_000, 10), (100_000, 1)] {
-        show(rt, measure_row_table(rt, alloc, rows, rounds)?)?;
-    }
-    Ok(())
-}
-
-fn show_loads(rt: &HostRuntime, alloc: Global) -> Result<(), Failure> {
-    for triples in [1_000, 10_000, 50_000] {
-        show(rt, measure_loads(rt, alloc, triples)?)?;
-    }
-    Ok(())
 }
 
 fn show_steps(rt: &HostRuntime, alloc: Global) -> Result<(), Failure> {

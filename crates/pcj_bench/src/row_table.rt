@@ -1,5 +1,7 @@
+use crate::engine::Engine;
 use crate::failure::Failure;
 use pcj_memtable::MemTable;
+use pcj_pages::PageTable;
 use pcj_table::{Cond, Plain, RowTable, TableError, Update};
 use pcj_term::{Bytes, Items, TryClone};
 use std::alloc::Global;
@@ -9,6 +11,7 @@ use std::time::{Clock, Instant};
 /// How long calls took on tables of some rows, in nanoseconds.
 #[derive(Clone, Copy)]
 pub struct RowTimes {
+    engine: Engine,
     rows: u32,
     rounds: u32,
     insertions: u128,
@@ -33,8 +36,8 @@ impl fmt::Display for RowTimes {
         );
         write!(
             f,
-            "{} rows: insertion {insertion} ns, get {get} ns, next {next} ns",
-            self.rows
+            "{}, {} rows: insertion {insertion} ns, get {get} ns, next {next} ns",
+            self.engine, self.rows
         )
     }
 }
@@ -48,22 +51,29 @@ impl From<TableError> for Failure {
     }
 }
 
-/// How long it takes to put a row into a growing table, in a random order of keys, to get a row, and to go from
-/// one row to the next.
+/// How many rows are put into new tables before the mean is taken.
+const ALL_ROWS: u32 = 100_000;
+
+/// How long it takes to put a row into a growing table, to get a row, in a random order of keys, and to go from one
+/// row to the next. A vector of more rows than that is filled in ascending order, as a random one takes hours.
 pub fn measure_row_table(
     clock: &impl Clock,
     alloc: Global,
+    engine: Engine,
     rows: u32,
-    rounds: u32,
 ) -> Result<RowTimes, Failure> {
+    let is_long = rows > ALL_ROWS && matches!(engine, Engine::Vector);
+    let keys = keys(alloc, rows, is_long)?;
+    let rounds = ALL_ROWS.checked_div(rows).unwrap_or(1).max(1);
     let (mut insertions, mut gets, mut nexts): (u128, u128, u128) = (0, 0, 0);
     for _ in 0..rounds {
-        let (insertion, get, next) = measure_table(clock, alloc, rows)?;
+        let (insertion, get, next) = measure_engine(clock, alloc, engine, &keys)?;
         insertions = insertions.saturating_add(insertion);
         gets = gets.saturating_add(get);
         nexts = nexts.saturating_add(next);
     }
     Ok(RowTimes {
+        engine,
         rows,
         rounds,
         insertions,
@@ -72,47 +82,76 @@ pub fn measure_row_table(
     })
 }
 
-/// The nanoseconds in which a table is filled, each row is got, and all rows are walked.
-fn measure_table(
+/// The keys of so many rows, as numbers, in a random or in ascending order.
+fn keys(alloc: Global, rows: u32, ascend: bool) -> Result<Vec<u64>, Failure> {
+    let mut keys = Vec::new(alloc);
+    for number in 0..rows {
+        keys.push(scattered(u64::from(number)))?;
+    }
+    if ascend {
+        keys.sort_unstable();
+    }
+    Ok(keys)
+}
+
+/// The nanoseconds in which a new table of the engine is filled, each row is got, and all rows are walked.
+fn measure_engine(
     clock: &impl Clock,
     alloc: Global,
-    rows: u32,
+    engine: Engine,
+    keys: &[u64],
 ) -> Result<(u128, u128, u128), Failure> {
-    let mut table = MemTable::new(alloc, Items::new(alloc));
+    let none = Items::new(alloc);
+    match engine {
+        Engine::Vector => measure_table(clock, alloc, &mut MemTable::new(alloc, none), keys),
+        Engine::Pages => measure_table(clock, alloc, &mut PageTable::new(alloc, none), keys),
+    }
+}
+
+/// The nanoseconds in which an empty table is filled, each row is got, and all rows are walked.
+fn measure_table<T: RowTable>(
+    clock: &impl Clock,
+    alloc: Global,
+    table: &mut T,
+    keys: &[u64],
+) -> Result<(u128, u128, u128), Failure> {
     let begun = Instant::now(clock)?;
-    fill(alloc, &mut table, rows)?;
+    fill(alloc, table, keys)?;
     let insertions = begun.elapsed(clock)?.as_nanos();
     let begun = Instant::now(clock)?;
-    get_each(&mut table, rows)?;
+    get_each(table, keys.len() as u64)?;
     let gets = begun.elapsed(clock)?.as_nanos();
     let begun = Instant::now(clock)?;
-    walk(alloc, &mut table, rows)?;
+    walk(alloc, table, keys.len())?;
     Ok((insertions, gets, begun.elapsed(clock)?.as_nanos()))
 }
 
-fn fill<T: RowTable>(alloc: Global, table: &mut T, rows: u32) -> Result<(), Failure> {
-    for number in 0..rows {
+fn fill<T: RowTable>(alloc: Global, table: &mut T, keys: &[u64]) -> Result<(), Failure> {
+    for key in keys {
         let plain = Plain {
             seq: 1,
             value: Some(Bytes::from_slice(alloc, b"value")?),
         };
-        let key = scattered(u64::from(number)).to_be_bytes();
-        table.mutate(&key, &[Cond::NoLock], &[Update::SetPlain(plain)])?;
+        table.mutate(
+            &key.to_be_bytes(),
+            &[Cond::NoLock],
+            &[Update::SetPlain(plain)],
+        )?;
     }
     Ok(())
 }
 
-/// Gets each row once, in the order in which they were put.
-fn get_each<T: RowTable>(table: &mut T, rows: u32) -> Result<(), Failure> {
+/// Gets each row once, in a random order of keys.
+fn get_each<T: RowTable>(table: &mut T, rows: u64) -> Result<(), Failure> {
     for number in 0..rows {
-        let key = scattered(u64::from(number)).to_be_bytes();
+        let key = scattered(number).to_be_bytes();
         table.get(&key)?;
     }
     Ok(())
 }
 
 /// Goes from each row to the next, in the order of keys.
-fn walk<T: RowTable>(alloc: Global, table: &mut T, rows: u32) -> Result<(), Failure> {
+fn walk<T: RowTable>(alloc: Global, table: &mut T, rows: usize) -> Result<(), Failure> {
     let mut after = Bytes::new(alloc);
     for _ in 0..rows {
         after = key_after(alloc, table, after.as_slice())?;
