@@ -1,0 +1,2 @@
+pub mod UnderChoice
+pub mod ChoiceLaws
