@@ -39,7 +39,8 @@ use Rattle.pcj_actor.specs.declared.told.Told.{Told}
 use Rattle.pcj_actor.specs.declared.told.Told.TheVariants.{Answered, Met}
 use Rattle.pcj_actor.specs.declared.task.Task.TheVariants.{Rest, Get, Next, Put, Write}
 use Rattle.pcj_actor.specs.StepLaws.{state_of, AreTxnMoves}
-use Rattle.pcj_actor.specs.Progress.{Progress, recovery_of, transaction_of, locked_of, IsReading, IsTold, IsOfStart, with_held, with_met, with_recovered, with_txn, told_event, IsToldOf, ReadsNoPlain, Recovers, Answers, Meets, Writes, TableStays, Tells, IsPut, Moved, MakesUpTo, task_calls, calls_of}
+use Rattle.pcj_actor.specs.Progress.{Progress, recovery_of, transaction_of, locked_of, IsReading, IsTold, IsOfStart, with_held, with_met, with_recovered, with_txn, told_event, IsToldOf, ReadsNoPlain, Recovers, Answers, Meets, Writes, TableStays, Tells, IsPut, Moved, AreAllStepMoves, AreStepMoves, MakesUpTo, task_calls, calls_of}
+use Rattle.pcj_actor.proofs.KindLemmas.{all_then, recovery_moves_are_steps, txn_moves_are_steps}
 use Rattle.pcj_actor.proofs.TxnLemmas.{txn_steps_are_moves}
 use Rattle.pcj_actor.proofs.ReadLemmas.{txn_meets_others}
 use Rattle.pcj_actor.proofs.RecoveryLemmas.{recovery_steps_are_moves}
@@ -61,21 +62,30 @@ progress_as start answers task recovery = record { actor = actor_of start answer
 -- a step of a recovery that goes on
 pub recovery_goes_on : (number : ℕ) (self : Progress) (start : ℕ) (answers : List Answer) (task : Task) (before : Option RecoveryProgress) (old new : RecoveryProgress) (table table' : Table) (event : RecoveryEvent) →
     progress_as start answers task before ≡ self → before ≡ Some old → TimesInOrder (row_at table) → RecoverySteps old table event new table' →
-    (moves : List Move) × Makes moves number (row_at table) self.actor number (row_at table') (actor_of start answers (transaction_of task) (Some new))
+    (moves : List Move) × AreAllStepMoves self.task moves × Makes moves number (row_at table) self.actor number (row_at table') (actor_of start answers (transaction_of task) (Some new))
 recovery_goes_on number self start answers task before old new table table' event view is order steps =
     let moved = recovery_steps_are_moves number (actor_of start answers (transaction_of task) before) old.recovery old.locked new table table' event (ap recovery_of is) order steps in
-    (moved.0, subst (λ (p : Progress). Makes moved.0 number (row_at table) p.actor number (row_at table') (actor_of start answers (transaction_of task) (Some new))) view moved.2)
+    (
+      moved.0,
+      recovery_moves_are_steps self.task old.recovery event moved.0 moved.1,
+      subst (λ (p : Progress). Makes moved.0 number (row_at table) p.actor number (row_at table') (actor_of start answers (transaction_of task) (Some new))) view moved.2,
+    )
 
 -- and one that is its last
 pub recovery_ends : (number : ℕ) (self : Progress) (start : ℕ) (answers : List Answer) (task : Task) (before : Option RecoveryProgress) (old new : RecoveryProgress) (table table' : Table) (event : RecoveryEvent) →
     progress_as start answers task before ≡ self → before ≡ Some old → TimesInOrder (row_at table) → RecoverySteps old table event new table' →
-    (moves : List Move) × Makes moves number (row_at table) self.actor number (row_at table') (actor_of start answers (transaction_of task) None)
+    (moves : List Move) × AreAllStepMoves self.task moves × Makes moves number (row_at table) self.actor number (row_at table') (actor_of start answers (transaction_of task) None)
 recovery_ends number self start answers task before old new table table' event view is order steps =
     let moved = recovery_goes_on number self start answers task before old new table table' event view is order steps in (
       moved.0 ++ (EndRecovery ∷ []),
+      all_then self.task moved.0 (EndRecovery ∷ []) moved.1 (tt, tt),
       makes_then moved.0 (EndRecovery ∷ []) number (row_at table) self.actor number (row_at table') (actor_of start answers (transaction_of task) (Some new))
-          number (row_at table') (actor_of start answers (transaction_of task) None) moved.1 (tt, (refl, refl, refl)),
+          number (row_at table') (actor_of start answers (transaction_of task) None) moved.2 (tt, (refl, refl, refl)),
     )
+
+pub as_step : (self : Progress) (number number' : ℕ) (rows rows' : Rows) (new : Actor) →
+    (moves : List Move) × AreAllStepMoves self.task moves × Makes moves number rows self.actor number' rows' new → (moves : List Move) × AreStepMoves self.task moves × Makes moves number rows self.actor number' rows' new
+as_step self number number' rows rows' new moved = (moved.0, inr moved.1, moved.2)
 
 -- ---- reads
 
@@ -99,9 +109,10 @@ pub read_is_held : (oracle : Option Block) (table table' : Table) (others : List
     progress_as start answers task recovery ≡ self → IsReading task → table' ≡ table → IsTold told start (row_at table) →
     ((answer : Answer) → told ≡ Answered answer → new ≡ with_held (progress_as start answers task recovery) answer) → ((key : Key) (lock : Lock) → told ≡ Met key lock → new ≡ with_met (progress_as start answers task recovery) key lock) →
     IsConsistent (state_of oracle table (self.actor ∷ others)) →
-    (moves : List Move) × Makes moves (next_number oracle table) (row_at table) self.actor (next_number oracle table') (row_at table') new.actor
+    (moves : List Move) × AreStepMoves self.task moves × Makes moves (next_number oracle table) (row_at table) self.actor (next_number oracle table') (row_at table') new.actor
 read_is_held oracle table table' others self new start answers task recovery (Answered answer) view reading same told here met is = (
   Read answer ∷ [],
+  inl (answer, refl),
   (
     subst (λ (p : Progress). IsRead (row_at table) p.actor.start answer) view told,
     (ap (next_number oracle) same, ap row_at same, ap (λ (p : Progress). p.actor) (here answer refl) ∙ ap (λ (p : Progress). with_answer p.actor answer) view),
@@ -111,6 +122,7 @@ read_is_held oracle table table' others self new start answers task recovery (Me
     let there = lock_stands (row_at table key).lock start lock told in
     let none : self.actor.transaction.writes ≡ [] = subst (λ (p : Progress). p.actor.transaction.writes ≡ []) view (reading_writes_nothing task reading) in (
       Meet key lock ∷ [],
+      inr (tt, tt),
       (
         record { stands = there; other = met_is_other (row_at table) self.actor.start self.actor.transaction key lock is.sound.0.transacts (nothing_is_free self.actor.start self.actor.transaction key none) there },
         (ap (next_number oracle) same, ap row_at same, ap (λ (p : Progress). p.actor) (met key lock refl) ∙ ap (λ (p : Progress). with_recovery p.actor (Some (new_recovery key lock))) view),
@@ -128,9 +140,10 @@ its_actor self start answers task recovery txn view is own =
 
 pub txn_goes_on : (oracle oracle' : Option Block) (table table' : Table) (others : List Actor) (self : Progress) (start : ℕ) (answers : List Answer) (task : Task) (recovery : Option RecoveryProgress) (txn new : TxnProgress) (event : TxnEvent) →
     progress_as start answers task recovery ≡ self → task ≡ Write txn → IsOfStart start task → TxnSteps txn oracle table event new oracle' table' → IsConsistent (state_of oracle table (self.actor ∷ others)) →
-    (moves : List Move) × Makes moves (next_number oracle table) (row_at table) self.actor (next_number oracle' table') (row_at table') (actor_of start answers new.transaction recovery)
+    (moves : List Move) × AreStepMoves self.task moves × Makes moves (next_number oracle table) (row_at table) self.actor (next_number oracle' table') (row_at table') (actor_of start answers new.transaction recovery)
 txn_goes_on oracle oracle' table table' others self start answers task recovery txn new event view is own steps consistent = (
   moved.0,
+  inr (txn_moves_are_steps self.task event moved.0 moved.1),
   subst (λ a. Makes moved.0 (next_number oracle table) (row_at table) a (next_number oracle' table') (row_at table') (actor_of start answers new.transaction recovery)) same
       (subst (λ s. Makes moved.0 (next_number oracle table) (row_at table) (actor_of txn.start answers txn.transaction recovery) (next_number oracle' table') (row_at table') (actor_of s answers new.transaction recovery)) (subst (IsOfStart start) is own) moved.2),
 )
@@ -145,9 +158,10 @@ txn_goes_on oracle oracle' table table' others self start answers task recovery 
 pub txn_meets : (oracle oracle' : Option Block) (table table' : Table) (others : List Actor) (self : Progress) (start : ℕ) (answers : List Answer) (task : Task) (recovery : Option RecoveryProgress) (txn new : TxnProgress) (event : TxnEvent) (key : Key) (lock : Lock) (begun : RecoveryProgress) →
     progress_as start answers task recovery ≡ self → task ≡ Write txn → IsOfStart start task → TxnSteps txn oracle table event new oracle' table' → event ≡ MetLock key lock → begun ≡ new_recovery_progress key lock →
     IsConsistent (state_of oracle table (self.actor ∷ others)) →
-    (moves : List Move) × Makes moves (next_number oracle table) (row_at table) self.actor (next_number oracle' table') (row_at table') (actor_of start answers new.transaction (Some begun))
+    (moves : List Move) × AreStepMoves self.task moves × Makes moves (next_number oracle table) (row_at table) self.actor (next_number oracle' table') (row_at table') (actor_of start answers new.transaction (Some begun))
 txn_meets oracle oracle' table table' others self start answers task recovery txn new event key lock begun view is own steps met begins consistent = (
   Meet key lock ∷ [],
+  inr (tt, tt),
   (
     subst (λ a. MayMeet (row_at table) a key lock) same (txn_meets_others (actor_of txn.start answers txn.transaction recovery) others txn.settled oracle table key lock
         (subst (λ a. IsConsistent (state_of oracle table (a ∷ others))) (sym same) consistent) told.0),
@@ -257,7 +271,7 @@ put_keeps_clock oracle table table' start task key plain applied is other done c
 
 pub put_moves : (oracle : Option Block) (table table' : Table) (self : Progress) (start : ℕ) (answers : List Answer) (task : Task) (recovery : Option RecoveryProgress) (key : Key) (plain : Plain) (applied : Bool) →
     progress_as start answers task recovery ≡ self → task ≡ Put key plain → IsOfStart start task → IsPut applied key plain table table' →
-    (moves : List Move) × Makes moves (next_number oracle table) (row_at table) self.actor (next_number oracle table') (row_at table') (actor_of start answers (new_transaction []) recovery)
+    (moves : List Move) × AreStepMoves self.task moves × Makes moves (next_number oracle table) (row_at table) self.actor (next_number oracle table') (row_at table') (actor_of start answers (new_transaction []) recovery)
 put_moves oracle table table' self start answers task recovery key plain applied view is other done = by applied done
   where
     same : actor_of start answers (new_transaction []) recovery ≡ self.actor
@@ -267,18 +281,18 @@ put_moves oracle table table' self start answers task recovery key plain applied
     number = ap (next_at oracle) (put_keeps_stored table table' key plain applied (subst (IsOfStart start) is other) done)
 
     by : (b : Bool) → IsPut b key plain table table' →
-        (moves : List Move) × Makes moves (next_number oracle table) (row_at table) self.actor (next_number oracle table') (row_at table') (actor_of start answers (new_transaction []) recovery)
-    by true made = (WritePlain key plain ∷ [], (tt, (number, made.1, same)))
-    by false left = ([], (number, ap row_at left.1, same))
+        (moves : List Move) × AreStepMoves self.task moves × Makes moves (next_number oracle table) (row_at table) self.actor (next_number oracle table') (row_at table') (actor_of start answers (new_transaction []) recovery)
+    by true made = (WritePlain key plain ∷ [], inr (inr (ap (λ (p : Progress). p.task) (sym view) ∙ is), tt), (tt, (number, made.1, same)))
+    by false left = ([], inr tt, (number, ap row_at left.1, same))
 
 -- ---- what a step leaves of all others
 
 pub carried_is_consistent : CarriedIsConsistent
 carried_is_consistent old new oracle oracle' table table' others carries plain is =
     let moved = carries others plain is in
-    moves_are_consistent moved.0 (next_number oracle table) (row_at table) old.actor (next_number oracle' table') (row_at table') new.actor others moved.1 is
+    moves_are_consistent moved.0 (next_number oracle table) (row_at table) old.actor (next_number oracle' table') (row_at table') new.actor others moved.2 is
 
 pub carried_leaves_read : CarriedLeavesRead
 carried_leaves_read old new oracle oracle' table table' others time answers carries plain is lower kept =
     let moved = carries others plain is in
-    moves_leave_read moved.0 (next_number oracle table) (row_at table) old.actor (next_number oracle' table') (row_at table') new.actor others time answers moved.1 is lower kept
+    moves_leave_read moved.0 (next_number oracle table) (row_at table) old.actor (next_number oracle' table') (row_at table') new.actor others time answers moved.2 is lower kept

@@ -177,7 +177,7 @@ drawn actor others settled new oracle oracle' table table' commit is draws = by 
         (moves : List Move) × AreTxnMoves (event.DrewCommit commit) moves × Makes moves (next_number oracle table) (row_at table) actor (next_number oracle' table') (row_at table') (with_transaction actor new.transaction)
     by true e = (
       WritePlain clock_key plain ∷ Draw commit ∷ [],
-      inr (plain, refl),
+      inr (plain, refl, refl),
       (
         tt,
         (

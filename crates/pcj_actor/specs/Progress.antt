@@ -1,5 +1,5 @@
 -- What an actor holds, and what it carries out.
-use Rattle.std.specs.Prelude.{◌≢◌, List, ◌∷◌, ◌≡◌, ℕ, ◌≤◌, Bool, true, false, is_some, if◌then◌else◌, [], Option, Some, None}
+use Rattle.std.specs.Prelude.{◌⊎◌, ◌≢◌, List, ◌∷◌, ◌≡◌, ℕ, ◌≤◌, Bool, true, false, is_some, if◌then◌else◌, [], Option, Some, None}
 use Rattle.pcj_moves.specs.Transactions.{Transaction, new_transaction}
 use Rattle.pcj_moves.specs.Recoveries.{Recovery, new_recovery}
 use Rattle.pcj_moves.specs.Actors.{Actor, new_actor, with_answer, with_recovery, with_transaction}
@@ -16,6 +16,7 @@ use Rattle.pcj_table.specs.declared.update.Update.TheVariants.{SetPlain}
 use Rattle.pcj_mvcc.specs.declared.act.Act.{Act}
 use Rattle.pcj_actor.specs.StepLaws.{state_of}
 use Rattle.pcj_moves.specs.Moves.{Move, Makes, IsConsistent}
+use Rattle.pcj_moves.specs.Moves as move
 use Rattle.pcj_recover.specs.Progress.{Progress as RecoveryProgress}
 use Rattle.pcj_snapshot.specs.declared.ask.Ask.TheVariants as ask
 use Rattle.pcj_snapshot.specs.Shown as shown
@@ -198,9 +199,28 @@ is_recovery (event.Recovers told) = true
 is_recovery (event.Put applied) = false
 is_recovery (event.Writes told) = false
 
+-- the one plain value that a step writes is that of the clock's row, which is empty, or what was to be put
+abbrev pub MayWritePlain : Task → Key → Plain → Type 0
+MayWritePlain task key plain = ((key ≡ clock_key) × (plain.value ≡ Some [])) ⊎ (task ≡ Put key plain)
+
+-- a move of a step that leaves what was read and what is to be written
+abbrev pub IsStepMove : Task → Move → Type 0
+IsStepMove task (move.Plan writes) = ⊥
+IsStepMove task (move.Read answer) = ⊥
+IsStepMove task (move.WritePlain key plain) = MayWritePlain task key plain
+IsStepMove task _ = Unit {0}
+
+abbrev pub AreAllStepMoves : Task → List Move → Type 0
+AreAllStepMoves task [] = Unit {0}
+AreAllStepMoves task (move ∷ moves) = IsStepMove task move × AreAllStepMoves task moves
+
+-- a step is an answer that was read, or such moves
+abbrev pub AreStepMoves : Task → List Move → Type 0
+AreStepMoves task moves = ((answer : Answer) × (moves ≡ move.Read answer ∷ [])) ⊎ AreAllStepMoves task moves
+
 -- the actor has made moves that the rules allow, and nothing else has changed
 abbrev pub Moved : Progress → ℕ → Table → Progress → ℕ → Table → Type 0
-Moved old number table new number' table' = (moves : List Move) × Makes moves number (row_at table) old.actor number' (row_at table') new.actor
+Moved old number table new number' table' = (moves : List Move) × AreStepMoves old.task moves × Makes moves number (row_at table) old.actor number' (row_at table') new.actor
 
 -- Whoever else is at work: where all is as it has to be, an actor makes moves that the rules allow.
 abbrev pub Carries : Progress → Option Block → Table → Progress → Option Block → Table → Type 0

@@ -40,7 +40,7 @@ abbrev pub AreTxnMoves : TxnEvent → List Move → Type 0
 AreTxnMoves txn.Prewrote moves = (write : Write) × (moves ≡ Prewrite write ∷ [])
 AreTxnMoves (txn.MetLock key lock) moves = moves ≡ []
 AreTxnMoves (txn.Conflict key commit) moves = moves ≡ []
-AreTxnMoves (txn.DrewCommit commit) moves = (moves ≡ Draw commit ∷ []) ⊎ ((plain : Plain) × (moves ≡ WritePlain clock_key plain ∷ Draw commit ∷ []))
+AreTxnMoves (txn.DrewCommit commit) moves = (moves ≡ Draw commit ∷ []) ⊎ ((plain : Plain) × (plain.value ≡ Some []) × (moves ≡ WritePlain clock_key plain ∷ Draw commit ∷ []))
 AreTxnMoves (txn.Committed commit) moves = ((write : Write) × (moves ≡ CommitPrimary write commit ∷ [])) ⊎ (moves ≡ CommitNothing commit ∷ [])
 AreTxnMoves (txn.PrimaryLost row) moves = moves ≡ []
 AreTxnMoves txn.SecondaryDone moves = ((write : Write) × (commit : ℕ) × (moves ≡ CommitSecondary write commit ∷ [])) ⊎ (moves ≡ [])

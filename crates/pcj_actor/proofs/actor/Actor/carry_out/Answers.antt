@@ -1,4 +1,4 @@
-use Rattle.std.proofs.Common.{refl, sym, subst, ap, ◌∙◌}
+use Rattle.std.proofs.Common.{inr, [], rules, refl, sym, subst, ap, ◌∙◌}
 use Rattle.pcj_table.specs.Table.{row_at}
 use Rattle.pcj_actor.specs.declared.task.Task.TheVariants.{Get, Next}
 use Rattle.pcj_actor.specs.Progress.{Progress, ReadsNoPlain}
@@ -74,3 +74,12 @@ returns-in_ok-applied-in-Put-clause-moves g c others plain is =
 pub returns-in_ok-applied-in-Put-clause-clock : goal.returns-in_ok-applied-in-Put-clause-clock
 returns-in_ok-applied-in-Put-clause-clock g c =
     put_keeps_clock c.args.oracle.now (g.T.RowTable.rows c.args.table.now) _ c.self.inside.start c.self.inside.task c.in-Put.key c.in-Put.plain c.in_ok-applied-in-Put.applied c.in-Put.is c.self.invariant (c.in_ok-applied-in-Put.ensures {u = tt}).done c.requires
+
+pub returns-in_err-hold-in-Get-clause-moves : goal.returns-in_err-hold-in-Get-clause-moves
+returns-in_err-hold-in-Get-clause-moves g c others plain is = ([], inr tt, search rules)
+
+pub returns-in_err-hold-in-Next-clause-moves : goal.returns-in_err-hold-in-Next-clause-moves
+returns-in_err-hold-in-Next-clause-moves g c others plain is = ([], inr tt, search rules)
+
+pub returns-in_err-event-in-Write-clause-moves : goal.returns-in_err-event-in-Write-clause-moves
+returns-in_err-event-in-Write-clause-moves g c others plain is = ([], inr tt, search rules)

@@ -1,13 +1,13 @@
-use Rattle.pcj_actor.proofs.ActorLemmas.{recovery_goes_on, recovery_ends, recovered_last}
+use Rattle.pcj_actor.proofs.ActorLemmas.{as_step, recovery_goes_on, recovery_ends, recovered_last}
 use Rattle.pcj_actor.proofs.actor.Actor.recover.Goals as goal
 
 pub returns-in-Working-clause-moves : goal.returns-in-Working-clause-moves
 returns-in-Working-clause-moves g c number order =
-    recovery_goes_on number _ c.self.inside.start c.self.inside.answers c.self.inside.task c.self.inside.recovery c.in-Some.recovery c.step.new.self _ _ c.in_ok-ended.ended c.self.view_is c.in-Some.is order (c.in_ok-ended.ensures {u = tt}).step
+    as_step c.args.self.now _ _ _ _ _ (recovery_goes_on number _ c.self.inside.start c.self.inside.answers c.self.inside.task c.self.inside.recovery c.in-Some.recovery c.step.new.self _ _ c.in_ok-ended.ended c.self.view_is c.in-Some.is order (c.in_ok-ended.ensures {u = tt}).step)
 
 pub returns-in_default-2 : goal.returns-in_default-2
 returns-in_default-2 g c = record {
-  moves = λ number order. recovery_ends number _ c.self.inside.start c.self.inside.answers c.self.inside.task c.self.inside.recovery c.in-Some.recovery c.step.new.self _ _ c.in_ok-ended.ended c.self.view_is c.in-Some.is order (c.in_ok-ended.ensures {u = tt}).step;
+  moves = λ number order. as_step c.args.self.now _ _ _ _ _ (recovery_ends number _ c.self.inside.start c.self.inside.answers c.self.inside.task c.self.inside.recovery c.in-Some.recovery c.step.new.self _ _ c.in_ok-ended.ended c.self.view_is c.in-Some.is order (c.in_ok-ended.ensures {u = tt}).step);
   same = tt;
   err = tt;
   there = tt;
