@@ -230,7 +230,7 @@ claim_is_kept F P Q kept number rows actor others (WritePlain key plain) has may
 -- ---- several moves, and other steps
 
 -- what an actor has to write isn't changed by any move but its beginning, nor what it has read but by a read
-steady_has : (P : Purpose) (move : Move) (rows : Rows) (actor : Actor) → is_steady move ≡ true → Has P actor → Has P (actor_after move rows actor)
+pub steady_has : (P : Purpose) (move : Move) (rows : Rows) (actor : Actor) → is_steady move ≡ true → Has P actor → Has P (actor_after move rows actor)
 steady_has P (Plan writes) rows actor steady has = absurd cc
 steady_has P (Prewrite write) rows actor steady has = has
 steady_has P (Draw commit) rows actor steady has = has

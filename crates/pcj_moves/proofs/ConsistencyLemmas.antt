@@ -89,7 +89,7 @@ actor_kept number rows actor mover others sound older own is = record { times = 
 -- ---- acts that bring no number
 
 -- a row with the versions that it had, and with no other lock
-same_versions : (rows : Rows) (key : Key) (row : Row) → ((lock : Lock) → row.lock ≡ Some lock → (rows key).lock ≡ Some lock) → row.versions ≡ (rows key).versions → NoNewNumbers rows (put rows key row)
+pub same_versions : (rows : Rows) (key : Key) (row : Row) → ((lock : Lock) → row.lock ≡ Some lock → (rows key).lock ≡ Some lock) → row.versions ≡ (rows key).versions → NoNewNumbers rows (put rows key row)
 same_versions rows key row fewer same = record {
   fewer = put_each (λ q r. (lock : Lock) → r.lock ≡ Some lock → (rows q).lock ≡ Some lock) rows key row fewer (λ q apart lock e. e);
   versions = λ test all. put_each (λ q r. list_all (λ version. test version.start version.commit) r.versions ≡ true) rows key row
@@ -98,7 +98,7 @@ same_versions rows key row fewer same = record {
 }
 
 -- a version with the numbers of the primary's
-forwarded : (rows : Rows) (key : Key) (lock : Lock) (commit : ℕ) → TimesInOrder rows → allows (roll_forward_act lock commit) (rows key) ≡ true → committed rows lock.primary lock.start ≡ Some commit →
+pub forwarded : (rows : Rows) (key : Key) (lock : Lock) (commit : ℕ) → TimesInOrder rows → allows (roll_forward_act lock commit) (rows key) ≡ true → committed rows lock.primary lock.start ≡ Some commit →
     NoNewNumbers rows (acted rows key (roll_forward_act lock commit))
 forwarded rows key lock commit order allowed is = record {
   fewer = put_each (λ q r. (l : Lock) → r.lock ≡ Some l → (rows q).lock ≡ Some l) rows key (replaced (rows key) (version_of lock commit)) (λ l e. absurd cc) (λ q apart l e. e);

@@ -1,0 +1,281 @@
+-- Every move keeps the rows fit.
+use Rattle.std.proofs.Common.{◌≡◌, ◌<◌, ℕ, suc, Bool, true, false, nat_lt, List, [], ◌∷◌, Some, None, refl, ap, sym, subst, ◌∙◌, arith, if◌then◌else◌}
+use Rattle.std.proofs.lemmas.Bool.{and_parts, ltb-true}
+use Rattle.std.specs.Option.{option_map}
+use Rattle.pcj_term.specs.declared.triple.Triple.{Triple}
+use Rattle.pcj_table.specs.Row.{newest, updated}
+use Rattle.pcj_table.specs.Table.{Key}
+use Rattle.pcj_table.specs.declared.lock.Lock.{Lock}
+use Rattle.pcj_table.specs.declared.plain.Plain.{Plain}
+use Rattle.pcj_table.specs.declared.row.Row.{Row}
+use Rattle.pcj_table.specs.declared.update.Update.TheVariants.{SetPlain}
+use Rattle.pcj_table.specs.declared.version.Version.{Version}
+use Rattle.pcj_table.specs.declared.write.Write.{Write}
+use Rattle.pcj_encode.specs.declared.order.Order.TheVariants.{Spo, Pos, Osp}
+use Rattle.pcj_encode.specs.declared.key_name.KeyName.TheVariants as row
+use Rattle.pcj_encode.specs.Name.{IsTriple}
+use Rattle.pcj_rowtables.specs.Rows.{triple_key}
+use Rattle.pcj_mvcc.proofs.Laws.{lock_there, replaced, rolled_back}
+use Rattle.pcj_mvcc.proofs.Versions.{version_of_start}
+use Rattle.pcj_mvcc.specs.Acts.{commit_act, lock_of, roll_back_act, version_of}
+use Rattle.pcj_mvcc.specs.Reading.{Rows, acted, allows, commit_of, committed, put, put_of, standing, versions_read}
+use Rattle.pcj_moves.specs.Traces.{traces}
+use Rattle.pcj_moves.specs.Transactions.{primary_of, with_commit, write_at}
+use Rattle.pcj_moves.specs.Recoveries.{Knows, Recovers, Recovery}
+use Rattle.pcj_moves.specs.Actors.{Actor, with_transaction}
+use Rattle.pcj_moves.specs.Moves.{CommitNothing, CommitPrimary, CommitSecondary, Draw, DropPrimary, EndRecovery, IsAllowed, IsConsistent, Learn, MayCommitPrimary, MayCommitSecondary, MayPrewrite, Meet, Move, Plan, Prewrite, Read, RollBack, RollForward, WritePlain, actor_after, number_after, rows_after}
+use Rattle.pcj_moves.specs.StandingLaws.{StandsWhole}
+use Rattle.pcj_moves.proofs.ConsistencyLemmas.{forwarded, its_first, its_recovery, its_write, move_is_consistent, same_versions}
+use Rattle.pcj_moves.proofs.OtherLemmas.{lock_is}
+use Rattle.pcj_moves.proofs.StandingLemmas.{one_move_changes}
+use Rattle.pcj_moves.proofs.StepLemmas.{AtPrimary, at_primary, further, trace_lock, uncommitted}
+use Rattle.pcj_moves.proofs.WriteLemmas.{distinct_are_there, undrawn_is_undone}
+use Rattle.pcj_choices.specs.ChoiceLaws.{IsLast}
+use Rattle.pcj_choices.specs.UnderChoice.{is_primary_commit}
+use Rattle.pcj_choices.proofs.ClaimLemmas.{IsKept, WritesOnly, reads_the_same}
+use Rattle.pcj_fit.specs.Fit.{AtomicRows, Fit, NumbersApart}
+use Rattle.pcj_fit.specs.Plans.{HasPlan}
+use Rattle.pcj_fit.specs.Rows.{Decodes, HoldsVersions, IsDecoded, IsLockOf, IsVersionOf}
+use Rattle.pcj_fit.specs.Sound.{IsClockPlain}
+use Rattle.pcj_fit.proofs.NumberLemmas.{apart_committed, apart_kept, apart_locked}
+use Rattle.pcj_fit.proofs.PlanLemmas.{CanWrite, Mark, by_order, can_write, mark_key, writes_whole, written_by}
+use Rattle.pcj_fit.proofs.RowLemmas.{all_with_version, decodes_later, decodes_put, from_versions, locked_row, row_of_name, to_versions}
+
+-- ---- the row of a write, and of a lock
+
+-- what its row holds
+row_of_write : (next start : ℕ) (rows : Rows) (write : Write) → Decodes next rows → (can : CanWrite next start write) → HoldsVersions next can.name (rows write.key)
+row_of_write next start rows write decodes can =
+    to_versions next can.name (rows write.key) can.written (subst (λ k. Rattle.pcj_fit.specs.Rows.IsRowOf next can.name (rows k)) (sym can.is) (row_of_name next rows can.name decodes can.valid))
+
+-- the row with something else, of the same name
+written_row : (next start : ℕ) (rows : Rows) (write : Write) (found : Row) → Decodes next rows → (can : CanWrite next start write) → HoldsVersions next can.name found → Decodes next (put rows write.key found)
+written_row next start rows write found decodes can holds = decodes_put next rows write.key found decodes
+    (λ some. record { name = can.name; valid = can.valid; granted = can.granted; is = can.is; holds = from_versions next can.name found can.written holds })
+
+-- a row whose lock was taken away
+decodes_unlocked : (next : ℕ) (rows : Rows) (key : Key) (lock : Lock) → Decodes next rows → (rows key).lock ≡ Some lock → Decodes next (put rows key (rolled_back (rows key)))
+decodes_unlocked next rows key lock decodes locked =
+    let is = locked_row next rows key lock decodes locked in
+    decodes_put next rows key (rolled_back (rows key)) decodes (λ some. record {
+      name = is.name;
+      valid = is.valid;
+      granted = is.granted;
+      is = is.is;
+      holds = from_versions next is.name (rolled_back (rows key)) is.written (record { lock = tt; versions = is.holds.versions; plain = is.holds.plain });
+    })
+
+-- or became a version
+decodes_replaced : (next : ℕ) (rows : Rows) (key : Key) (lock : Lock) (commit : ℕ) → Decodes next rows → (rows key).lock ≡ Some lock → commit < next → Decodes next (put rows key (replaced (rows key) (version_of lock commit)))
+decodes_replaced next rows key lock commit decodes locked lt =
+    let is = locked_row next rows key lock decodes locked in
+    decodes_put next rows key (replaced (rows key) (version_of lock commit)) decodes (λ some. record {
+      name = is.name;
+      valid = is.valid;
+      granted = is.granted;
+      is = is.is;
+      holds = from_versions next is.name (replaced (rows key) (version_of lock commit)) is.written (record {
+        lock = tt;
+        versions = all_with_version (IsVersionOf next is.name) (version_of lock commit) (rows key).versions (record { start = is.its.start; commit = lt; value = is.its.value }) is.holds.versions;
+        plain = is.holds.plain;
+      });
+    })
+
+-- ---- what stands
+
+atomic_same : (before after : Rows) → versions_read after ≡ versions_read before → AtomicRows before → AtomicRows after
+atomic_same before after same atomic = record {
+  pos = subst (λ (read : Key → List Version). (triple : Triple) → IsTriple triple → put_of (newest (read (triple_key Pos triple))) ≡ put_of (newest (read (triple_key Spo triple)))) (sym same) atomic.pos;
+  osp = subst (λ (read : Key → List Version). (triple : Triple) → IsTriple triple → put_of (newest (read (triple_key Osp triple))) ≡ put_of (newest (read (triple_key Spo triple)))) (sym same) atomic.osp;
+}
+
+-- what stands of a triple's row after the commit of a transaction that writes it whole, or not at all
+pub stands_of : (writes : List Write) (commit : ℕ) (before after : Rows) (triple : Triple) (mark : Mark) (b : Bool) → StandsWhole writes commit before after → write_at writes (mark_key mark triple) ≡ written_by b (mark_key mark triple) →
+    standing after (mark_key mark triple) ≡ (if b then Some ([], commit) else standing before (mark_key mark triple))
+stands_of writes commit before after triple mark true whole e = (whole.written (mark_key mark triple) _ e).stands
+stands_of writes commit before after triple mark false whole e = (whole.others (mark_key mark triple) e).stands
+
+atomic_whole : (start : ℕ) (answers : List Rattle.pcj_moves.specs.declared.answer.Answer.Answer) (writes : List Write) (commit : ℕ) (before after : Rows) → HasPlan start answers writes → StandsWhole writes commit before after →
+    AtomicRows before → AtomicRows after
+atomic_whole start answers writes commit before after plan whole atomic = record {
+  pos = λ triple valid. let its = writes_whole start answers writes triple plan valid in
+      stands_of writes commit before after triple (by_order Pos) its.is whole (its.each (by_order Pos))
+      ∙ same (Some ([], commit)) its.is (atomic.pos triple valid) ∙ sym (stands_of writes commit before after triple (by_order Spo) its.is whole (its.each (by_order Spo)));
+  osp = λ triple valid. let its = writes_whole start answers writes triple plan valid in
+      stands_of writes commit before after triple (by_order Osp) its.is whole (its.each (by_order Osp))
+      ∙ same (Some ([], commit)) its.is (atomic.osp triple valid) ∙ sym (stands_of writes commit before after triple (by_order Spo) its.is whole (its.each (by_order Spo)));
+}
+  where
+    same : {X : Type 0} (new : X) {a b : X} (is : Bool) → a ≡ b → (if is then new else a) ≡ (if is then new else b)
+    same new true e = refl
+    same new false e = e
+
+-- ---- each move
+
+-- the rows after a move, with what is left to show of them
+assembled : (number : ℕ) (rows : Rows) (actor : Actor) (others : List Actor) (move : Move) → is_primary_commit move ≡ false → IsAllowed move number rows actor →
+    IsConsistent (record { number = number; rows = rows; actors = actor ∷ others }) → Fit number rows → Decodes (number_after move number) (rows_after move actor rows) → NumbersApart (rows_after move actor rows) →
+    Fit (number_after move number) (rows_after move actor rows)
+assembled number rows actor others move other may consistent fit decodes apart =
+    let after = move_is_consistent number rows actor others move may consistent in
+    record {
+      decodes = decodes;
+      times = after.times;
+      named = after.named;
+      once = after.once;
+      apart = apart;
+      atomic = atomic_same rows (rows_after move actor rows) (reads_the_same number rows actor others move other may consistent) fit.atomic;
+    }
+
+prewrite_fit : (number : ℕ) (rows : Rows) (actor : Actor) (others : List Actor) (write : Write) → HasPlan actor.start actor.answers actor.transaction.writes → MayPrewrite rows actor write →
+    IsConsistent (record { number = number; rows = rows; actors = actor ∷ others }) → Fit number rows → Fit number (rows_after (Prewrite write) actor rows)
+prewrite_fit number rows actor others write plan may consistent fit =
+    assembled number rows actor others (Prewrite write) refl may consistent fit
+    (written_row number actor.start rows write _ fit.decodes can (record { lock = record { start = can.begun; value = can.value }; versions = holds.versions; plain = holds.plain }))
+    (apart_locked rows write.key _ (lock_of write actor.start (primary_of actor.transaction)) consistent.own.0.start refl refl fit.apart)
+  where
+    can : CanWrite number actor.start write
+    can = can_write number actor.start actor.answers actor.transaction.writes write consistent.older.0.below.start plan
+        (distinct_are_there actor.transaction.writes actor.transaction.prewritten write consistent.sound.0.transacts.distinct may.next)
+
+    holds : HoldsVersions number can.name (rows write.key)
+    holds = row_of_write number actor.start rows write fit.decodes can
+
+secondary_fit : (number : ℕ) (rows : Rows) (actor : Actor) (others : List Actor) (write : Write) (commit : ℕ) → MayCommitSecondary rows actor write commit →
+    IsConsistent (record { number = number; rows = rows; actors = actor ∷ others }) → Fit number rows → Fit number (rows_after (CommitSecondary write commit) actor rows)
+secondary_fit number rows actor others write commit may consistent fit =
+    assembled number rows actor others (CommitSecondary write commit) refl may consistent fit
+    (decodes_replaced number rows write.key lock commit fit.decodes locked (consistent.older.0.below.commit commit may.drawn))
+    (apart_kept rows _ (forwarded rows write.key lock commit consistent.times may.allowed its.now) fit.apart)
+  where
+    lock : Lock
+    lock = lock_of write actor.start (primary_of actor.transaction)
+
+    its : Rattle.pcj_moves.proofs.StepLemmas.Further rows actor.start actor.transaction write commit
+    its = further rows actor.start actor.transaction write commit consistent.times consistent.sound.0.transacts may.done may.drawn (its_write rows actor write commit consistent.sound.0 may) may.allowed
+
+    there : (l : Lock) × ((rows write.key).lock ≡ Some l) × (l.start ≡ actor.start)
+    there = lock_there (rows write.key).lock actor.start (and_parts _ _ may.allowed).0
+
+    locked : (rows write.key).lock ≡ Some lock
+    locked = there.1 ∙ ap Some (its.only there.0 there.1 there.2)
+
+back_fit : (number : ℕ) (rows : Rows) (actor : Actor) (others : List Actor) (key : Key) (start : ℕ) (move : Move) → is_primary_commit move ≡ false → IsAllowed move number rows actor →
+    IsConsistent (record { number = number; rows = rows; actors = actor ∷ others }) → Fit number rows → number_after move number ≡ number → rows_after move actor rows ≡ put rows key (rolled_back (rows key)) → allows (roll_back_act start) (rows key) ≡ true →
+    Fit (number_after move number) (rows_after move actor rows)
+back_fit number rows actor others key start move other may consistent fit same after allowed =
+    let there = lock_there (rows key).lock start (and_parts _ _ allowed).0 in
+    assembled number rows actor others move other may consistent fit
+    (subst (λ n. Decodes n (rows_after move actor rows)) (sym same) (subst (Decodes number) (sym after) (decodes_unlocked number rows key there.0 fit.decodes there.1)))
+    (subst NumbersApart (sym after) (apart_kept rows _ (same_versions rows key (rolled_back (rows key)) (λ lock e. absurd cc) refl) fit.apart))
+
+forward_fit : (number : ℕ) (rows : Rows) (actor : Actor) (others : List Actor) (recovery : Recovery) (commit : ℕ) → IsAllowed (RollForward recovery commit) number rows actor →
+    IsConsistent (record { number = number; rows = rows; actors = actor ∷ others }) → Fit number rows → Fit number (rows_after (RollForward recovery commit) actor rows)
+forward_fit number rows actor others recovery commit may consistent fit =
+    assembled number rows actor others (RollForward recovery commit) refl may consistent fit
+    (decodes_replaced number rows recovery.key recovery.lock commit fit.decodes locked lower)
+    (apart_kept rows _ (forwarded rows recovery.key recovery.lock commit consistent.times may.2 known) fit.apart)
+  where
+    recovers : Recovers recovery (traces recovery.lock.start rows)
+    recovers = (its_recovery rows actor recovery consistent.sound.0 may.0).0
+
+    there : (l : Lock) × ((rows recovery.key).lock ≡ Some l) × (l.start ≡ recovery.lock.start)
+    there = lock_there (rows recovery.key).lock recovery.lock.start (and_parts _ _ may.2).0
+
+    locked : (rows recovery.key).lock ≡ Some recovery.lock
+    locked = there.1 ∙ ap Some (recovers.holds there.0 (trace_lock rows recovery.key recovery.lock.start there.0 there.1 there.2))
+
+    known : committed rows recovery.lock.primary recovery.lock.start ≡ Some commit
+    known = (subst (Knows recovery (traces recovery.lock.start rows)) may.1 recovers.knows).1
+
+    lower : commit < number
+    lower = let found = version_of_start (λ version. nat_lt version.commit number) recovery.lock.start commit (rows recovery.lock.primary).versions (consistent.below.versions recovery.lock.primary) known in
+        let lt = ltb-true found.0.commit number found.3 in let same = found.2 in omega arith
+
+plain_fit : (number : ℕ) (rows : Rows) (actor : Actor) (others : List Actor) (key : Key) (plain : Plain) → IsClockPlain key plain →
+    IsConsistent (record { number = number; rows = rows; actors = actor ∷ others }) → Fit number rows → Fit number (rows_after (WritePlain key plain) actor rows)
+plain_fit number rows actor others key plain is consistent fit =
+    assembled number rows actor others (WritePlain key plain) refl tt consistent fit
+    (decodes_put number rows key (updated (rows key) (SetPlain plain)) fit.decodes (λ some. record {
+      name = row.Clock;
+      valid = tt;
+      granted = tt;
+      is = is.0;
+      holds = record { lock = clock.lock; versions = clock.versions; value = is.1 };
+    }))
+    (apart_kept rows _ (same_versions rows key (updated (rows key) (SetPlain plain)) (λ lock e. e) refl) fit.apart)
+  where
+    clock : Rattle.pcj_fit.specs.Rows.IsClockRow (rows key)
+    clock = subst (λ k. Rattle.pcj_fit.specs.Rows.IsClockRow (rows k)) (sym is.0) (row_of_name number rows row.Clock fit.decodes tt)
+
+others_fit : (number : ℕ) (rows : Rows) (actor : Actor) (others : List Actor) (move : Move) → is_primary_commit move ≡ false → HasPlan actor.start actor.answers actor.transaction.writes →
+    IsConsistent (record { number = number; rows = rows; actors = actor ∷ others }) → IsAllowed move number rows actor → WritesOnly IsClockPlain move → Fit number rows → Fit (number_after move number) (rows_after move actor rows)
+others_fit number rows actor others (Plan writes) other plan consistent may plains fit = fit
+others_fit number rows actor others (Prewrite write) other plan consistent may plains fit = prewrite_fit number rows actor others write plan may consistent fit
+others_fit number rows actor others (Draw commit) other plan consistent may plains fit = record {
+  decodes = decodes_later number (suc commit) rows (let le = may.granted in omega arith) fit.decodes;
+  times = fit.times;
+  named = fit.named;
+  once = fit.once;
+  apart = fit.apart;
+  atomic = fit.atomic;
+}
+others_fit number rows actor others (CommitPrimary write commit) other plan consistent may plains fit = absurd cc
+others_fit number rows actor others (CommitSecondary write commit) other plan consistent may plains fit = secondary_fit number rows actor others write commit may consistent fit
+others_fit number rows actor others (CommitNothing commit) other plan consistent may plains fit = fit
+others_fit number rows actor others (Read answer) other plan consistent may plains fit = fit
+others_fit number rows actor others (Meet key lock) other plan consistent may plains fit = fit
+others_fit number rows actor others (Learn recovery) other plan consistent may plains fit = fit
+others_fit number rows actor others (DropPrimary recovery) other plan consistent may plains fit =
+    back_fit number rows actor others recovery.lock.primary recovery.lock.start (DropPrimary recovery) refl may consistent fit refl refl may.1
+others_fit number rows actor others (RollBack recovery) other plan consistent may plains fit =
+    back_fit number rows actor others recovery.key recovery.lock.start (RollBack recovery) refl may consistent fit refl refl may.2
+others_fit number rows actor others (RollForward recovery commit) other plan consistent may plains fit = forward_fit number rows actor others recovery commit may consistent fit
+others_fit number rows actor others EndRecovery other plan consistent may plains fit = fit
+others_fit number rows actor others (WritePlain key plain) other plan consistent may plains fit = plain_fit number rows actor others key plain plains consistent fit
+
+-- ---- the last commit
+
+last_fit : (number : ℕ) (rows : Rows) (actor : Actor) (others : List Actor) (write : Write) (commit : ℕ) → HasPlan actor.start actor.answers actor.transaction.writes → IsLast number rows actor others write commit →
+    Fit number rows → Fit (suc commit) (acted rows write.key (commit_act write actor.start commit))
+last_fit number rows actor others write commit plan last fit = record {
+  decodes = decodes_replaced (suc commit) rows write.key lock commit (decodes_later number (suc commit) rows (omega arith) fit.decodes) locked (omega arith);
+  times = after.times;
+  named = after.named;
+  once = after.once;
+  apart = apart_committed number rows write.key lock commit last.draws.granted last.consistent.below locked none last.consistent.own.0.start fit.times.first fit.apart;
+  atomic = atomic_whole actor.start actor.answers actor.transaction.writes commit rows _ plan (one_move_changes (suc commit) rows drawn others (CommitPrimary write commit) may consistent) fit.atomic;
+}
+  where
+    drawn : Actor
+    drawn = with_transaction actor (with_commit actor.transaction commit)
+
+    consistent : IsConsistent (record { number = suc commit; rows = rows; actors = drawn ∷ others })
+    consistent = move_is_consistent number rows actor others (Draw commit) last.draws last.consistent
+
+    may : MayCommitPrimary rows drawn write commit
+    may = record { first = last.first; drawn = refl; undone = undrawn_is_undone actor.start actor.transaction (traces actor.start rows) last.consistent.sound.0.transacts last.draws.undrawn; allowed = last.allowed }
+
+    after : IsConsistent (record { number = suc commit; rows = acted rows write.key (commit_act write actor.start commit); actors = actor_after (CommitPrimary write commit) rows drawn ∷ others })
+    after = move_is_consistent (suc commit) rows drawn others (CommitPrimary write commit) may consistent
+
+    first : (rest : List Write) × (actor.transaction.writes ≡ write ∷ rest)
+    first = its_first rows drawn write commit may
+
+    at : AtPrimary rows actor.start drawn.transaction write commit
+    at = at_primary rows actor.start drawn.transaction write first.0 commit consistent.times consistent.sound.0.transacts first.1 refl may.undone last.allowed
+
+    lock : Lock
+    lock = lock_of write actor.start write.key
+
+    locked : (rows write.key).lock ≡ Some lock
+    locked = (lock_is (rows write.key).lock actor.start lock (ap (λ t. t.lock) at.was)).0
+
+    none : commit_of actor.start (rows write.key).versions ≡ None
+    none = ap (λ t. option_map (λ v. v.commit) t.version) at.was
+
+pub fit_is_kept : IsKept Fit HasPlan IsClockPlain
+fit_is_kept = record {
+  others = λ number rows actor others move other plan consistent may plains fit. others_fit number rows actor others move other plan consistent may plains fit;
+  last = λ number rows actor others write commit plan last fit. last_fit number rows actor others write commit plan last fit;
+}

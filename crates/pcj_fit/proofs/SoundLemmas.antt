@@ -1,0 +1,147 @@
+-- Every move keeps all sound.
+use Rattle.std.proofs.Common.{◌≡◌, inl, ℕ, suc, Bool, true, false, nat_lt, List, [], ◌∷◌, refl, ap, sym, subst, arith}
+use Rattle.std.proofs.lemmas.Bool.{and_from, lt-ltb}
+use Rattle.std.proofs.lemmas.List.Elements.{All-head, All-tail}
+use Rattle.std.specs.List.{All, list_all}
+use Rattle.pcj_table.proofs.RowLemmas.{no_row_is}
+use Rattle.pcj_table.specs.Row.{has_nothing}
+use Rattle.pcj_table.specs.Table.{Key}
+use Rattle.pcj_table.specs.declared.row.Row.{Row}
+use Rattle.pcj_table.specs.declared.version.Version.{Version}
+use Rattle.pcj_encode.specs.declared.key_name.KeyName.{KeyName}
+use Rattle.pcj_mvcc.proofs.Choices.{not_chosen}
+use Rattle.pcj_mvcc.proofs.Rows.{rows_alike}
+use Rattle.pcj_mvcc.specs.Choices.{Choice, IsChoice, under, with_commit}
+use Rattle.pcj_mvcc.specs.Reading.{Rows}
+use Rattle.pcj_moves.specs.Actors.{IsOlder, new_actor}
+use Rattle.pcj_moves.specs.ChoiceLaws.{IsRipeAt}
+use Rattle.pcj_moves.specs.Moves.{Begins, CommitNothing, CommitPrimary, CommitSecondary, Draw, DropPrimary, EndRecovery, Ends, Learn, Meet, Move, NumbersAreOwn, Plan, Prewrite, Read, RollBack, RollForward, WritePlain}
+use Rattle.pcj_moves.proofs.ConsistencyLemmas.{move_is_consistent}
+use Rattle.pcj_moves.proofs.MoveLemmas.{comes_first, higher_is_consistent, step_is_consistent}
+use Rattle.pcj_moves.proofs.OrderLemmas.{actor_goes_back, each_apart, each_together}
+use Rattle.pcj_choices.proofs.ClaimLemmas.{WritesOnly, claim_begins, claim_ends, claim_first, claim_goes_back, claim_here, claim_is_kept}
+use Rattle.pcj_fit.specs.Fit.{Fit}
+use Rattle.pcj_fit.specs.Laws.{BackIsSound, BeginIsSound, EndIsSound, FirstIsSound, FitGrows, FitIsSound, HigherIsSound, MoveIsSound, SoundIsFit, WritesClock, state_of}
+use Rattle.pcj_fit.specs.Plans.{HasPlan}
+use Rattle.pcj_fit.specs.Rows.{Decodes, IsDecoded, IsVersionOf}
+use Rattle.pcj_fit.specs.Sound.{IsClockPlain, IsPlanned}
+use Rattle.pcj_fit.proofs.FitLemmas.{fit_is_kept}
+use Rattle.pcj_fit.proofs.RowLemmas.{decodes_later, is_written, locked_row, to_versions, unwritten_versions}
+
+writes_only : (move : Move) → WritesClock move → WritesOnly IsClockPlain move
+writes_only (Plan writes) is = tt
+writes_only (Prewrite write) is = tt
+writes_only (Draw commit) is = tt
+writes_only (CommitPrimary write commit) is = tt
+writes_only (CommitSecondary write commit) is = tt
+writes_only (CommitNothing commit) is = tt
+writes_only (Read answer) is = tt
+writes_only (Meet key lock) is = tt
+writes_only (Learn recovery) is = tt
+writes_only (DropPrimary recovery) is = tt
+writes_only (RollBack recovery) is = tt
+writes_only (RollForward recovery commit) is = tt
+writes_only EndRecovery is = tt
+writes_only (WritePlain key plain) is = is
+
+pub move_is_sound : MoveIsSound
+move_is_sound number rows actor others move may plains planned sound = record {
+  consistent = move_is_consistent number rows actor others move may sound.consistent;
+  fit = claim_is_kept Fit HasPlan IsClockPlain fit_is_kept number rows actor others move sound.planned.0 may (writes_only move plains) sound.consistent sound.fit;
+  planned = (planned, sound.planned.1);
+}
+
+-- ---- actors that begin and end
+
+pub fit_grows : FitGrows
+fit_grows number more rows le fit = record {
+  decodes = decodes_later number more rows le fit.decodes;
+  times = fit.times;
+  named = fit.named;
+  once = fit.once;
+  apart = fit.apart;
+  atomic = fit.atomic;
+}
+
+pub higher_is_sound : HigherIsSound
+higher_is_sound number more rows actors le sound = record {
+  consistent = higher_is_consistent number more rows actors le sound.consistent;
+  fit = λ choice is. fit_grows number more (under choice rows) le (sound.fit choice is);
+  planned = sound.planned;
+}
+
+pub begin_is_sound : BeginIsSound
+begin_is_sound number start rows actors le sound = record {
+  consistent = step_is_consistent (state_of number rows actors) (Begins start) (state_of (suc start) rows (new_actor start ∷ actors)) sound.consistent (le, refl);
+  fit = claim_begins (Fit (suc start)) rows start actors (λ choice is. fit_grows number (suc start) (under choice rows) (omega arith) (sound.fit choice is));
+  planned = (inl refl, sound.planned);
+}
+
+pub end_is_sound : EndIsSound
+end_is_sound number rows actor others sound = record {
+  consistent = step_is_consistent (state_of number rows (actor ∷ others)) (Ends [] actor others) (state_of number rows others) sound.consistent (refl, refl);
+  fit = claim_ends (Fit number) rows actor others sound.fit;
+  planned = sound.planned.1;
+}
+
+pub first_is_sound : FirstIsSound
+first_is_sound number rows front actor back sound = record {
+  consistent = comes_first number rows front actor back sound.consistent;
+  fit = claim_first (Fit number) rows front actor back sound.fit;
+  planned = each_apart IsPlanned front actor back sound.planned;
+}
+
+pub back_is_sound : BackIsSound
+back_is_sound number rows front actor back sound = record {
+  consistent = record {
+    times = sound.consistent.times;
+    named = sound.consistent.named;
+    once = sound.consistent.once;
+    below = sound.consistent.below;
+    sound = actor_goes_back rows front actor back sound.consistent.sound;
+    older = each_together (IsOlder number) front actor back sound.consistent.older.0 sound.consistent.older.1;
+    own = each_together (NumbersAreOwn rows) front actor back sound.consistent.own.0 sound.consistent.own.1;
+  };
+  fit = claim_goes_back (Fit number) rows front actor back sound.fit;
+  planned = each_together IsPlanned front actor back sound.planned.0 sound.planned.1;
+}
+
+-- ---- fit tables
+
+pub sound_is_fit : SoundIsFit
+sound_is_fit number rows actors sound = claim_here (Fit number) (IsRipeAt rows actors) rows sound.fit
+
+-- the commits of a row that decodes are below the number
+commits_below : (next : ℕ) (name : KeyName) (versions : List Version) → All (IsVersionOf next name) versions → list_all (λ version. nat_lt version.commit next) versions ≡ true
+commits_below next name [] all = refl
+commits_below next name (version ∷ versions) all =
+    and_from (nat_lt version.commit next) _ (lt-ltb version.commit next (All-head (IsVersionOf next name) version versions all).commit) (commits_below next name versions (All-tail (IsVersionOf next name) version versions all))
+
+rows_below : (number : ℕ) (rows : Rows) → Decodes number rows → (key : Key) → list_all (λ version. nat_lt version.commit number) (rows key).versions ≡ true
+rows_below number rows decodes key = by (has_nothing (rows key)) refl
+  where
+    by : (b : Bool) → has_nothing (rows key) ≡ b → list_all (λ version. nat_lt version.commit number) (rows key).versions ≡ true
+    by true none = ap (λ (r : Row). list_all (λ version. nat_lt version.commit number) r.versions) (no_row_is (rows key) none)
+    by false some = let is = decodes key some in written is (is_written is.name) refl
+      where
+        written : (is : IsDecoded number key (rows key)) (b : Bool) → is_written is.name ≡ b → list_all (λ version. nat_lt version.commit number) (rows key).versions ≡ true
+        written is true e = commits_below number is.name (rows key).versions (to_versions number is.name (rows key) e is.holds).versions
+        written is false e = ap (list_all (λ version. nat_lt version.commit number)) (unwritten_versions number is.name (rows key) e is.holds)
+
+pub fit_is_sound : FitIsSound
+fit_is_sound number rows fit = record {
+  consistent = record {
+    times = fit.times;
+    named = fit.named;
+    once = fit.once;
+    below = record { versions = rows_below number rows fit.decodes; locks = λ key lock locked. (locked_row number rows key lock fit.decodes locked).its.start.1 };
+    sound = tt;
+    older = tt;
+    own = tt;
+  };
+  fit = λ choice is. subst (Fit number) (sym (none choice is)) fit;
+  planned = tt;
+}
+  where
+    none : (choice : Choice) → IsChoice (IsRipeAt rows []) choice → under choice rows ≡ rows
+    none choice is = rows_alike _ _ (λ key. ap (λ c. with_commit c (rows key)) (not_chosen (IsRipeAt rows []) choice key is (λ commit ripes. let within = ripes.1.1 in omega arith)))

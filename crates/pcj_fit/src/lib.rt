@@ -1,0 +1,9 @@
+//! What holds of a table wherever the program was stopped and whoever was at work on it, and what every move keeps of it.
+#![tactic(auto)]
+
+mod sound;
+
+pub use sound::{
+    actors_come_and_go, fit_tables_are_sound, loads_add_their_triples, moves_keep_all_sound,
+    steps_keep_all_sound,
+};
