@@ -1,5 +1,4 @@
-ghost use Rattle.std.specs.Prelude.{◌≡◌, IfOk};
-ghost use Rattle.pcj_algebra.specs.declared.pattern.Pattern.TheVariants.{Join, Filter, Union};
+ghost use Rattle.std.specs.Prelude.{◌≡◌, Ok, IfOk};
 
 use crate::triple_pattern::TriplePattern;
 use pcj_expr::Expr;
@@ -25,43 +24,27 @@ impl TryClone for Pattern {
         match self {
             Pattern::Triple(triple) => Ok(Pattern::Triple(triple.try_clone(alloc)?)),
             Pattern::Join(left, right) => {
-                let left = left.get().try_clone(alloc)?;
-                let right = right.get().try_clone(alloc)?;
-                join(alloc, left, right)
+                let left = boxed(alloc, left.get().try_clone(alloc))?;
+                let right = boxed(alloc, right.get().try_clone(alloc))?;
+                Ok(Pattern::Join(left, right))
             }
             Pattern::Filter(condition, inner) => {
-                let inner = inner.get().try_clone(alloc)?;
-                filter(alloc, condition, inner)
+                let inner = boxed(alloc, inner.get().try_clone(alloc))?;
+                Ok(Pattern::Filter(condition.try_clone(alloc)?, inner))
             }
             Pattern::Union(left, right) => {
-                let left = left.get().try_clone(alloc)?;
-                let right = right.get().try_clone(alloc)?;
-                union(alloc, left, right)
+                let left = boxed(alloc, left.get().try_clone(alloc))?;
+                let right = boxed(alloc, right.get().try_clone(alloc))?;
+                Ok(Pattern::Union(left, right))
             }
         }
     }
 }
 
-fn join(alloc: Global, left: Pattern, right: Pattern) -> Result<Pattern, Memory>
-    ensures { IfOk result (λ pattern. pattern ≡ Join left right) }
+/// A copy behind a box, where there is one.
+fn boxed(alloc: Global, copy: Result<Pattern, Memory>) -> Result<Boxed<Pattern>, Memory>
+    ensures { IfOk result (λ inner. copy ≡ Ok inner) }
 {
-    let left = Boxed::new(alloc, left)?;
-    let right = Boxed::new(alloc, right)?;
-    Ok(Pattern::Join(left, right))
-}
-
-fn filter(alloc: Global, condition: &Expr, inner: Pattern) -> Result<Pattern, Memory>
-    ensures { IfOk result (λ pattern. pattern ≡ Filter condition.now inner) }
-{
-    let inner = Boxed::new(alloc, inner)?;
-    let condition = condition.try_clone(alloc)?;
-    Ok(Pattern::Filter(condition, inner))
-}
-
-fn union(alloc: Global, left: Pattern, right: Pattern) -> Result<Pattern, Memory>
-    ensures { IfOk result (λ pattern. pattern ≡ Union left right) }
-{
-    let left = Boxed::new(alloc, left)?;
-    let right = Boxed::new(alloc, right)?;
-    Ok(Pattern::Union(left, right))
+    let copy = copy?;
+    Ok(Boxed::new(alloc, copy)?)
 }
