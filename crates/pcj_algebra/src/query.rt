@@ -62,3 +62,12 @@ pub struct Query {
     /// Whose solutions are asked for.
     pub pattern: Pattern,
 }
+
+impl TryClone for Query {
+    fn try_clone(&self, alloc: Global) -> Result<Query, Memory> {
+        Ok(Query {
+            shape: self.shape.try_clone(alloc)?,
+            pattern: self.pattern.try_clone(alloc)?,
+        })
+    }
+}

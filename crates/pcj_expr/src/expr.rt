@@ -1,3 +1,5 @@
+ghost use Rattle.std.specs.Prelude.{◌≡◌, Ok, IfOk};
+
 use crate::operand::{Compare, Operand};
 use pcj_term::{Memory, TryClone};
 use sqlite_items::Boxed;
@@ -20,18 +22,18 @@ impl TryClone for Expr {
     fn try_clone(&self, alloc: Global) -> Result<Expr, Memory> {
         match self {
             Expr::Or(left, right) => {
-                let left = left.get().try_clone(alloc)?;
-                let right = right.get().try_clone(alloc)?;
-                Ok(Expr::Or(Boxed::new(alloc, left)?, Boxed::new(alloc, right)?))
+                let left = boxed(alloc, left.get().try_clone(alloc))?;
+                let right = boxed(alloc, right.get().try_clone(alloc))?;
+                Ok(Expr::Or(left, right))
             }
             Expr::And(left, right) => {
-                let left = left.get().try_clone(alloc)?;
-                let right = right.get().try_clone(alloc)?;
-                Ok(Expr::And(Boxed::new(alloc, left)?, Boxed::new(alloc, right)?))
+                let left = boxed(alloc, left.get().try_clone(alloc))?;
+                let right = boxed(alloc, right.get().try_clone(alloc))?;
+                Ok(Expr::And(left, right))
             }
             Expr::Not(inner) => {
-                let inner = inner.get().try_clone(alloc)?;
-                Ok(Expr::Not(Boxed::new(alloc, inner)?))
+                let inner = boxed(alloc, inner.get().try_clone(alloc))?;
+                Ok(Expr::Not(inner))
             }
             Expr::Test(compare, left, right) => Ok(Expr::Test(
                 *compare,
@@ -40,4 +42,12 @@ impl TryClone for Expr {
             )),
         }
     }
+}
+
+/// A copy behind a box, where there is one.
+fn boxed(alloc: Global, copy: Result<Expr, Memory>) -> Result<Boxed<Expr>, Memory>
+    ensures { IfOk result (λ inner. copy ≡ Ok inner) }
+{
+    let copy = copy?;
+    Ok(Boxed::new(alloc, copy)?)
 }

@@ -1,1 +1,3 @@
 mod Begins
+mod Writes
+mod ClockSet

@@ -4,7 +4,7 @@ use std::alloc::Global;
 /// A line of the output, as it is put together: the case, and behind it the answers.
 #[derive(Drop)]
 pub(crate) struct Answer {
-    alloc: Global,
+    pub(crate) alloc: Global,
     text: String,
 }
 

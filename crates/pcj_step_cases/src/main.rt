@@ -1,4 +1,4 @@
-//! The program `pcj_step_cases`, which carries out steps of transactions, recoveries and reads in a given order over an
+//! The program `pcj_step_cases`, which carries out steps of transactions, recoveries, reads and actors in a given order over an
 //! empty table in memory, and writes what each came to.
 //!
 //! It reads cases on standard input, a line each: the number of the table's call that is to fail, or 0, and then words
@@ -10,6 +10,8 @@
 #![tactic(auto)]
 
 mod answer;
+mod client;
+mod clock;
 mod scene;
 mod show;
 mod unanswered;

@@ -1,12 +1,14 @@
 ghost use Rattle.std.specs.Prelude.{◌≡◌, None};
 
+use crate::client::Client;
 use pcj_oracle::Oracle;
 use pcj_recover::Recovery;
 use pcj_snapshot::SnapRead;
 use pcj_txn::Txn;
 use std::alloc::Global;
 
-/// Who steps over the table: an oracle, two transactions, a read, and the recovery of the lock that was met last.
+/// Who steps over the table: an oracle, two transactions, a read, the recovery of the lock that was met last by one of
+/// these, and two actors.
 #[derive(Drop)]
 pub(crate) struct Scene {
     pub(crate) alloc: Global,
@@ -15,6 +17,8 @@ pub(crate) struct Scene {
     pub(crate) second: Option<Txn>,
     pub(crate) read: Option<SnapRead>,
     pub(crate) recovery: Option<Recovery>,
+    pub(crate) actor_a: Option<Client>,
+    pub(crate) actor_b: Option<Client>,
 }
 
 impl Scene {
@@ -29,6 +33,8 @@ impl Scene {
             second: None,
             read: None,
             recovery: None,
+            actor_a: None,
+            actor_b: None,
         }
     }
 }

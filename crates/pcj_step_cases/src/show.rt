@@ -1,9 +1,14 @@
+//! What is written of events, answers and a transaction's errors. It is written of a copy, so that a copy is made of each.
+
 use crate::answer::Answer;
 use crate::unanswered::Unanswered;
+use pcj_actor::ActorEvent;
+use pcj_moves::Answer as Read;
 use pcj_oracle::OracleError;
 use pcj_recover::RecoveryEvent;
 use pcj_snapshot::ReadEvent;
-use pcj_table::{Row, TableError, Version};
+use pcj_table::{Pair, Plain, Row, TableError, Version};
+use pcj_term::{Bytes, TryClone};
 use pcj_txn::{TxnError, TxnEvent};
 
 /// Adds the lock that was met.
@@ -13,8 +18,13 @@ pub(crate) fn show_met(out: &mut Answer, key: &[u8], start: u64) -> Result<(), U
     out.number('@', start)
 }
 
-/// Adds what a step of a transaction came to, but for a lock that was met.
+/// Adds what a step of a transaction came to.
 pub(crate) fn show_txn(out: &mut Answer, event: &TxnEvent) -> Result<(), Unanswered> {
+    let copy = event.try_clone(out.alloc)?;
+    show_txn_copy(out, &copy)
+}
+
+fn show_txn_copy(out: &mut Answer, event: &TxnEvent) -> Result<(), Unanswered> {
     match event {
         TxnEvent::Prewrote => out.word("prewrote"),
         TxnEvent::MetLock { key, lock } => show_met(out, key.as_slice(), lock.start),
@@ -44,7 +54,7 @@ pub(crate) fn show_number(out: &mut Answer, word: &str, number: u64) -> Result<(
 
 /// Adds what a step of a recovery came to.
 pub(crate) fn show_recovery(out: &mut Answer, event: RecoveryEvent) -> Result<(), Unanswered> {
-    match event {
+    match event.try_clone(out.alloc)? {
         RecoveryEvent::Working => out.word("working"),
         RecoveryEvent::RolledForward => out.word("forward"),
         RecoveryEvent::RolledBack => out.word("back"),
@@ -53,6 +63,11 @@ pub(crate) fn show_recovery(out: &mut Answer, event: RecoveryEvent) -> Result<()
 
 /// Adds what a read came to.
 pub(crate) fn show_read(out: &mut Answer, event: &ReadEvent) -> Result<(), Unanswered> {
+    let copy = event.try_clone(out.alloc)?;
+    show_read_copy(out, &copy)
+}
+
+fn show_read_copy(out: &mut Answer, event: &ReadEvent) -> Result<(), Unanswered> {
     match event {
         ReadEvent::Nothing => out.word("nothing"),
         ReadEvent::MetLock { key, lock } => show_met(out, key.as_slice(), lock.start),
@@ -64,7 +79,70 @@ pub(crate) fn show_read(out: &mut Answer, event: &ReadEvent) -> Result<(), Unans
     }
 }
 
-/// Adds the lock of a row and its versions.
+/// Adds what a step of an actor came to, with all that it has read where it has read something.
+pub(crate) fn show_actor(
+    out: &mut Answer,
+    event: &ActorEvent,
+    answers: &[Read],
+) -> Result<(), Unanswered> {
+    match event {
+        ActorEvent::Rests => out.word("rests"),
+        ActorEvent::Answered => show_answers(out, answers),
+        ActorEvent::Met => out.word("met"),
+        ActorEvent::Recovers(event) => show_recovery(out, *event),
+        ActorEvent::Put { applied: true } => out.word("put"),
+        ActorEvent::Put { applied: false } => out.word("stands"),
+        ActorEvent::Writes(event) => show_txn(out, event),
+    }
+}
+
+fn show_answers(out: &mut Answer, answers: &[Read]) -> Result<(), Unanswered> {
+    out.word("answered:")?;
+    for answer in answers {
+        show_answer(out, answer)?;
+    }
+    Ok(())
+}
+
+/// Adds what was asked for, and behind it what was found.
+fn show_answer(out: &mut Answer, answer: &Read) -> Result<(), Unanswered> {
+    let copy = answer.try_clone(out.alloc)?;
+    show_answer_copy(out, &copy)
+}
+
+fn show_answer_copy(out: &mut Answer, answer: &Read) -> Result<(), Unanswered> {
+    match answer {
+        Read::OfRow { key, found } => {
+            out.bytes('[', key.as_slice())?;
+            show_found_value(out, found)?;
+        }
+        Read::OfRange { after, end, found } => {
+            out.bytes('[', after.as_slice())?;
+            out.bytes('-', end.as_slice())?;
+            show_found_pair(out, found)?;
+        }
+    }
+    out.bytes(']', b"")
+}
+
+fn show_found_value(out: &mut Answer, found: &Option<Bytes>) -> Result<(), Unanswered> {
+    match found {
+        Some(value) => out.bytes('=', value.as_slice()),
+        None => Ok(()),
+    }
+}
+
+fn show_found_pair(out: &mut Answer, found: &Option<Pair>) -> Result<(), Unanswered> {
+    match found {
+        Some(pair) => {
+            out.bytes(':', pair.key.as_slice())?;
+            out.bytes('=', pair.value.as_slice())
+        }
+        None => Ok(()),
+    }
+}
+
+/// Adds the lock of a row, its versions and its plain value.
 pub(crate) fn show_row(out: &mut Answer, row: &Row) -> Result<(), Unanswered> {
     out.bytes('[', b"")?;
     if let Some(lock) = &row.lock {
@@ -73,7 +151,18 @@ pub(crate) fn show_row(out: &mut Answer, row: &Row) -> Result<(), Unanswered> {
     for version in row.versions.as_slice() {
         show_version(out, version)?;
     }
+    if let Some(plain) = &row.plain {
+        show_plain(out, plain)?;
+    }
     out.bytes(']', b"")
+}
+
+fn show_plain(out: &mut Answer, plain: &Plain) -> Result<(), Unanswered> {
+    out.number('P', plain.seq)?;
+    match &plain.value {
+        Some(value) => out.bytes('=', value.as_slice()),
+        None => Ok(()),
+    }
 }
 
 fn show_version(out: &mut Answer, version: &Version) -> Result<(), Unanswered> {
@@ -100,7 +189,7 @@ pub(crate) fn show_oracle_error(out: &mut Answer, error: OracleError) -> Result<
 
 /// Adds why a step of a transaction did nothing.
 pub(crate) fn show_txn_error(out: &mut Answer, error: TxnError) -> Result<(), Unanswered> {
-    match error {
+    match error.try_clone(out.alloc)? {
         TxnError::Failed => out.word("failed"),
         TxnError::Spent => out.word("spent"),
         TxnError::Memory => Err(Unanswered::Memory),

@@ -1,7 +1,9 @@
-ghost use Rattle.std.specs.Prelude.{◌≡◌};
+ghost use Rattle.std.specs.Prelude.{◌≡◌, ◌≤◌};
 ghost use Rattle.pcj_oracle.specs.Clock.{IsClock, stored_number};
 
 use crate::answer::Answer;
+use crate::client::Client;
+use crate::clock::leave_numbers;
 use crate::scene::Scene;
 use crate::show::{
     show_number, show_oracle_error, show_read, show_recovery, show_row, show_table_error, show_txn,
@@ -47,6 +49,15 @@ fn answer_word<T: RowTable>(
         b"2" => step_second(scene, table, out),
         b"r" => step_read(scene, table, out),
         b"c" => step_recovery(&mut scene.recovery, table, out),
+        b"A+" => begin_actor_a(scene, table, out),
+        b"B+" => begin_actor_b(scene, table, out),
+        b"A" => step_actor(&mut scene.actor_a, &mut scene.oracle, table, out),
+        b"B" => step_actor(&mut scene.actor_b, &mut scene.oracle, table, out),
+        [b'A', words @ ..] => ask_actor(&mut scene.actor_a, out, words),
+        [b'B', words @ ..] => ask_actor(&mut scene.actor_b, out, words),
+        [b'^', left] => {
+            leave_numbers(scene.alloc, &mut scene.oracle, table, out, number_of(*left))
+        }
         [b'?', key] => answer_row(table, out, *key),
         [b'1', keys @ ..] => begin_first(scene, table, out, keys),
         [b'2', keys @ ..] => begin_second(scene, table, out, keys),
@@ -57,6 +68,13 @@ fn answer_word<T: RowTable>(
 }
 
 // ---- numbers
+
+/// The number that a digit stands for.
+pub(crate) fn number_of(digit: u8) -> u64
+    ensures { result ≤ 255 }
+{
+    u64::from(digit.wrapping_sub(b'0'))
+}
 
 /// Draws a number, if there is one.
 fn drawn<T: RowTable>(
@@ -98,7 +116,7 @@ fn writes(alloc: Global, keys: &[u8], value: u8) -> Result<Items<Write>, Unanswe
     Ok(writes)
 }
 
-fn write(alloc: Global, key: u8, value: u8) -> Result<Write, Unanswered> {
+pub(crate) fn write(alloc: Global, key: u8, value: u8) -> Result<Write, Unanswered> {
     Ok(Write {
         key: Bytes::from_slice(alloc, &[key])?,
         value: Some(Bytes::from_slice(alloc, &[value])?),
@@ -282,7 +300,7 @@ fn begin_next<T: RowTable>(
     Ok(())
 }
 
-fn range(alloc: Global, after: u8, end: u8) -> Result<KeyRange, Unanswered> {
+pub(crate) fn range(alloc: Global, after: u8, end: u8) -> Result<KeyRange, Unanswered> {
     Ok(KeyRange {
         after: Bytes::from_slice(alloc, &[after])?,
         end: Bytes::from_slice(alloc, &[end])?,
@@ -325,6 +343,77 @@ fn met_by_read(alloc: Global, event: ReadEvent) -> Option<Recovery> {
         _ => None,
     }
 }
+
+// ---- actors
+
+/// An actor that begins at the next number, if there is one.
+fn begun_actor<T: RowTable>(
+    alloc: Global,
+    oracle: &mut Oracle,
+    table: &mut T,
+    out: &mut Answer,
+    letter: u8,
+) -> Result<Option<Client>, Unanswered>
+    requires { IsClock oracle.old (T.rows table.old) }
+    ensures { IsClock oracle.new (T.rows table.new) }
+{
+    match drawn(oracle, table, out)? {
+        Some(start) => Ok(Some(Client::new(alloc, start, letter))),
+        None => Ok(None),
+    }
+}
+
+fn begin_actor_a<T: RowTable>(
+    scene: &mut Scene,
+    table: &mut T,
+    out: &mut Answer,
+) -> Result<(), Unanswered>
+    requires { IsClock scene.old.oracle (T.rows table.old) }
+    ensures { IsClock scene.new.oracle (T.rows table.new) }
+{
+    scene.actor_a = begun_actor(scene.alloc, &mut scene.oracle, table, out, b'A')?;
+    Ok(())
+}
+
+fn begin_actor_b<T: RowTable>(
+    scene: &mut Scene,
+    table: &mut T,
+    out: &mut Answer,
+) -> Result<(), Unanswered>
+    requires { IsClock scene.old.oracle (T.rows table.old) }
+    ensures { IsClock scene.new.oracle (T.rows table.new) }
+{
+    scene.actor_b = begun_actor(scene.alloc, &mut scene.oracle, table, out, b'B')?;
+    Ok(())
+}
+
+fn ask_actor(
+    client: &mut Option<Client>,
+    out: &mut Answer,
+    words: &[u8],
+) -> Result<(), Unanswered> {
+    let Some(client) = client else {
+        return out.word("nobody");
+    };
+    client.ask(out, words)
+}
+
+fn step_actor<T: RowTable>(
+    client: &mut Option<Client>,
+    oracle: &mut Oracle,
+    table: &mut T,
+    out: &mut Answer,
+) -> Result<(), Unanswered>
+    requires { IsClock oracle.old (T.rows table.old) }
+    ensures { IsClock oracle.new (T.rows table.new) }
+{
+    let Some(client) = client else {
+        return out.word("nobody");
+    };
+    client.step(oracle, table, out)
+}
+
+// ---- rows
 
 fn answer_row<T: RowTable>(table: &mut T, out: &mut Answer, key: u8) -> Result<(), Unanswered>
     ensures { T.rows table.new ≡ T.rows table.old }
