@@ -112,7 +112,7 @@ pub read_is_held : (oracle : Option Block) (table table' : Table) (others : List
     (moves : List Move) × AreStepMoves self.task moves × Makes moves (next_number oracle table) (row_at table) self.actor (next_number oracle table') (row_at table') new.actor
 read_is_held oracle table table' others self new start answers task recovery (Answered answer) view reading same told here met is = (
   Read answer ∷ [],
-  inl (answer, refl),
+  inl (answer, subst (λ (p : Progress). IsReading p.task) view reading, refl),
   (
     subst (λ (p : Progress). IsRead (row_at table) p.actor.start answer) view told,
     (ap (next_number oracle) same, ap row_at same, ap (λ (p : Progress). p.actor) (here answer refl) ∙ ap (λ (p : Progress). with_answer p.actor answer) view),

@@ -62,7 +62,7 @@ draw_due writes prewritten (Some c) true settled is = absurd (never (slice_get w
     never None e = cc
     never (Some w) e = cc
 
-primary_due : (writes : List Write) (prewritten : ℕ) (commit : Option ℕ) (committed : Bool) (settled : ℕ) (write : Write) (number : ℕ) → due_of writes prewritten commit committed settled ≡ due.CommitPrimary write number →
+pub primary_due : (writes : List Write) (prewritten : ℕ) (commit : Option ℕ) (committed : Bool) (settled : ℕ) (write : Write) (number : ℕ) → due_of writes prewritten commit committed settled ≡ due.CommitPrimary write number →
     (slice_get writes 0 ≡ Some write) × (commit ≡ Some number) × (committed ≡ false)
 primary_due writes prewritten None committed settled write number is = absurd (never (slice_get writes prewritten) is)
   where
@@ -80,7 +80,7 @@ primary_due writes prewritten (Some c) true settled write number is = absurd (ne
     never None e = cc
     never (Some w) e = cc
 
-none_due : (writes : List Write) (prewritten : ℕ) (commit : Option ℕ) (committed : Bool) (settled : ℕ) (number : ℕ) → due_of writes prewritten commit committed settled ≡ due.CommitNone number →
+pub none_due : (writes : List Write) (prewritten : ℕ) (commit : Option ℕ) (committed : Bool) (settled : ℕ) (number : ℕ) → due_of writes prewritten commit committed settled ≡ due.CommitNone number →
     (slice_get writes 0 ≡ None) × (commit ≡ Some number) × (committed ≡ false)
 none_due writes prewritten None committed settled number is = absurd (never (slice_get writes prewritten) is)
   where

@@ -216,7 +216,7 @@ AreAllStepMoves task (move ∷ moves) = IsStepMove task move × AreAllStepMoves 
 
 -- a step is an answer that was read, or such moves
 abbrev pub AreStepMoves : Task → List Move → Type 0
-AreStepMoves task moves = ((answer : Answer) × (moves ≡ move.Read answer ∷ [])) ⊎ AreAllStepMoves task moves
+AreStepMoves task moves = ((answer : Answer) × IsReading task × (moves ≡ move.Read answer ∷ [])) ⊎ AreAllStepMoves task moves
 
 -- the actor has made moves that the rules allow, and nothing else has changed
 abbrev pub Moved : Progress → ℕ → Table → Progress → ℕ → Table → Type 0

@@ -1,0 +1,67 @@
+use Rattle.std.proofs.Common.{List, ◌∷◌, ap, sym, subst, ◌∙◌}
+use Rattle.pcj_term.specs.declared.triple.Triple.{Triple}
+use Rattle.pcj_table.specs.Table.{row_at}
+use Rattle.pcj_moves.specs.Actors.{Actor}
+use Rattle.pcj_actor.specs.StepLaws.{state_of}
+use Rattle.pcj_fit.specs.Sound.{Sound}
+use Rattle.pcj_fit.specs.Triples.{HasTriples}
+use Rattle.pcj_client.specs.Job.{HasStepped, IsAtWork, Job, job_of}
+use Rattle.pcj_client.specs.Events.{CommitsOnce, IsTold, event_of, triples_after}
+use Rattle.pcj_client.proofs.SoundLemmas.{asks_nothing, its_step, step_calls_few, step_changes_triples, step_commits_once, step_keeps_sound, step_tells}
+use Rattle.pcj_client.proofs.load_job.LoadJob.step.Goals as goal
+
+pub take_in-requires : goal.take_in-requires
+take_in-requires g c =
+    subst (λ (ts : List Triple). HasStepped ts c.ask.new.writes.items c.ask.new.kept c.in_ok-event.event c.step.new.self) (c.as_slice.ensures ∙ sym c.as_slice-2.ensures)
+    (its_step c.ask.new.actor c.args.oracle.now (g.T.RowTable.rows c.args.table.now) c.in_ok-event.event c.step.new.self c.step.new.oracle (g.T.RowTable.rows c.step.new.table) c.as_slice.result.now c.ask.new.writes.items c.ask.new.kept
+    c.ask.ensures.work ((c.in_ok-ask.ensures {u = tt}).busy) ((c.in_ok-event.ensures {u = tt}).tells))
+
+pub returns-clause-told : goal.returns-clause-told
+returns-clause-told g c =
+    subst (λ (j : Job). IsTold j c.args.oracle.now (g.T.RowTable.rows c.args.table.now) c.take_in.result (job_of c.take_in.new.actor c.self.inside.triples) c.step.new.oracle (g.T.RowTable.rows c.step.new.table))
+    (asks_nothing c.self.inside.actor c.ask.new.actor c.self.inside.triples c.args.self.now c.ask.ensures.actor c.ask.ensures.writing c.ask.ensures.locked c.self.view_is)
+    (subst (λ e. IsTold (job_of c.ask.new.actor c.self.inside.triples) c.args.oracle.now (g.T.RowTable.rows c.args.table.now) e (job_of c.take_in.new.actor c.self.inside.triples) c.step.new.oracle (g.T.RowTable.rows c.step.new.table)) (sym c.take_in.ensures.event)
+    (step_tells c.ask.new.actor c.step.new.self c.take_in.new.actor c.args.oracle.now c.step.new.oracle (g.T.RowTable.rows c.args.table.now) (g.T.RowTable.rows c.step.new.table) c.in_ok-event.event c.self.inside.triples c.ask.new.writes.items c.ask.new.kept
+    (subst (λ (ts : List Triple). IsAtWork c.ask.new.actor ts c.ask.new.writes.items c.ask.new.kept) c.as_slice.ensures c.ask.ensures.work)
+    ((c.in_ok-ask.ensures {u = tt}).busy) ((c.in_ok-event.ensures {u = tt}).tells) ((c.in_ok-event.ensures {u = tt}).first) c.take_in.ensures.goes_on))
+
+pub returns-clause-commit : goal.returns-clause-commit
+returns-clause-commit g c =
+    subst (λ (j : Job). CommitsOnce j c.take_in.result (job_of c.take_in.new.actor c.self.inside.triples))
+    (asks_nothing c.self.inside.actor c.ask.new.actor c.self.inside.triples c.args.self.now c.ask.ensures.actor c.ask.ensures.writing c.ask.ensures.locked c.self.view_is)
+    (subst (λ e. CommitsOnce (job_of c.ask.new.actor c.self.inside.triples) e (job_of c.take_in.new.actor c.self.inside.triples)) (sym c.take_in.ensures.event)
+    (step_commits_once c.ask.new.actor c.step.new.self c.take_in.new.actor c.args.oracle.now c.step.new.oracle (g.T.RowTable.rows c.args.table.now) (g.T.RowTable.rows c.step.new.table) c.in_ok-event.event c.self.inside.triples c.ask.new.writes.items c.ask.new.kept
+    (subst (λ (ts : List Triple). IsAtWork c.ask.new.actor ts c.ask.new.writes.items c.ask.new.kept) c.as_slice.ensures c.ask.ensures.work)
+    ((c.in_ok-ask.ensures {u = tt}).busy) ((c.in_ok-event.ensures {u = tt}).tells) c.take_in.ensures.goes_on))
+
+pub returns-clause-sound : goal.returns-clause-sound
+returns-clause-sound g c others sound =
+    step_keeps_sound c.ask.new.actor c.step.new.self c.take_in.new.actor c.args.oracle.now c.step.new.oracle (g.T.RowTable.rows c.args.table.now) (g.T.RowTable.rows c.step.new.table) c.self.inside.triples c.ask.new.writes.items c.take_in.new.writes.items c.ask.new.kept c.take_in.new.kept
+    (subst (λ (ts : List Triple). IsAtWork c.ask.new.actor ts c.ask.new.writes.items c.ask.new.kept) c.as_slice.ensures c.ask.ensures.work)
+    ((c.in_ok-event.ensures {u = tt}).moves) c.take_in.ensures.goes_on
+    (subst (λ (ts : List Triple). IsAtWork c.take_in.new.actor ts c.take_in.new.writes.items c.take_in.new.kept) c.as_slice-2.ensures c.take_in.ensures.work)
+    others
+    (subst (λ (a : Actor). Sound (state_of c.args.oracle.now (g.T.RowTable.rows c.args.table.now) (a ∷ others))) (sym (ap (λ (j : Job). j.actor) c.self.view_is) ∙ sym c.ask.ensures.actor) sound)
+
+pub returns-clause-triples : goal.returns-clause-triples
+returns-clause-triples g c known others sound has =
+    subst (λ e. HasTriples (row_at (g.T.RowTable.rows c.step.new.table)) (triples_after e known c.args.self.now.triples)) (sym c.take_in.ensures.event)
+    (subst (λ (ts : List Triple). HasTriples (row_at (g.T.RowTable.rows c.step.new.table)) (triples_after (event_of c.in_ok-event.event) known ts)) (ap (λ (j : Job). j.triples) c.self.view_is)
+    (step_changes_triples c.ask.new.actor c.step.new.self c.args.oracle.now c.step.new.oracle (g.T.RowTable.rows c.args.table.now) (g.T.RowTable.rows c.step.new.table) c.in_ok-event.event c.self.inside.triples c.ask.new.writes.items c.ask.new.kept known others
+    (subst (λ (ts : List Triple). IsAtWork c.ask.new.actor ts c.ask.new.writes.items c.ask.new.kept) c.as_slice.ensures c.ask.ensures.work)
+    ((c.in_ok-ask.ensures {u = tt}).busy) ((c.in_ok-event.ensures {u = tt}).tells) ((c.in_ok-event.ensures {u = tt}).moves)
+    (subst (λ (a : Actor). Sound (state_of c.args.oracle.now (g.T.RowTable.rows c.args.table.now) (a ∷ others))) (sym (ap (λ (j : Job). j.actor) c.self.view_is) ∙ sym c.ask.ensures.actor) sound) has))
+
+pub returns-clause-calls : goal.returns-clause-calls
+returns-clause-calls g c =
+    step_calls_few c.ask.new.actor c.self.inside.triples c.ask.new.writes.items c.ask.new.kept c.args.oracle.now (g.T.RowTable.rows c.args.table.now) _ _ c.args.self.now
+    (subst (λ (ts : List Triple). IsAtWork c.ask.new.actor ts c.ask.new.writes.items c.ask.new.kept) c.as_slice.ensures c.ask.ensures.work)
+    (asks_nothing c.self.inside.actor c.ask.new.actor c.self.inside.triples c.args.self.now c.ask.ensures.actor c.ask.ensures.writing c.ask.ensures.locked c.self.view_is)
+    c.step.ensures.calls
+
+pub returns-in_err-event-clause-calls : goal.returns-in_err-event-clause-calls
+returns-in_err-event-clause-calls g c =
+    step_calls_few c.ask.new.actor c.self.inside.triples c.ask.new.writes.items c.ask.new.kept c.args.oracle.now (g.T.RowTable.rows c.args.table.now) _ _ c.args.self.now
+    (subst (λ (ts : List Triple). IsAtWork c.ask.new.actor ts c.ask.new.writes.items c.ask.new.kept) c.as_slice.ensures c.ask.ensures.work)
+    (asks_nothing c.self.inside.actor c.ask.new.actor c.self.inside.triples c.args.self.now c.ask.ensures.actor c.ask.ensures.writing c.ask.ensures.locked c.self.view_is)
+    c.step.ensures.calls

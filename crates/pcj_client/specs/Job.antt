@@ -1,0 +1,100 @@
+-- A load at work: what others see of it, and what it has gathered so far.
+use Rattle.std.specs.Prelude.{◌≡◌, ◌⊎◌, ℕ, ◌<◌, Bool, true, false, List, [], ◌++◌, length, take, Option, Some, None}
+use Rattle.std.specs.List.{slice_get}
+use Rattle.pcj_term.specs.declared.triple.Triple.{Triple}
+use Rattle.pcj_table.specs.declared.write.Write.{Write}
+use Rattle.pcj_encode.specs.declared.order.Order.TheVariants.{Spo}
+use Rattle.pcj_rowtables.specs.Rows.{triple_key}
+use Rattle.pcj_moves.specs.Transactions.{new_transaction}
+use Rattle.pcj_moves.specs.Actors.{Actor}
+use Rattle.pcj_txn.specs.Progress.{Progress as TxnProgress}
+use Rattle.pcj_actor.specs.Progress.{Progress, transaction_of}
+use Rattle.pcj_actor.specs.declared.task.Task.{Task}
+use Rattle.pcj_actor.specs.declared.task.Task.TheVariants.{Rest, Get, Next, Put, Write as Writes}
+use Rattle.pcj_table.specs.Table.{Key}
+use Rattle.pcj_table.specs.declared.lock.Lock.{Lock}
+use Rattle.pcj_table.specs.declared.plain.Plain.{Plain}
+use Rattle.pcj_recover.specs.Progress.{Progress as RecoveryProgress}
+use Rattle.pcj_txn.specs.Progress.{new_progress as new_txn}
+use Rattle.pcj_moves.specs.declared.answer.Answer.{Answer}
+use Rattle.pcj_moves.specs.declared.answer.Answer.TheVariants.{OfRow}
+use Rattle.pcj_moves.specs.Transactions.{are_distinct}
+use Rattle.pcj_actor.specs.declared.event.ActorEvent.{ActorEvent}
+use Rattle.pcj_actor.specs.declared.event.ActorEvent.TheVariants as event
+use Rattle.pcj_actor.specs.Progress.{IsAnswerOf, with_held, with_met, with_recovered, with_task, with_txn}
+use Rattle.pcj_fit.specs.Plans.{AreReadOf, IsLoad, absent_of, load_writes, triple_writes}
+
+-- The actor, its transaction's progress once all is read, whether the lock of its recovery's primary is to be dropped, and
+-- the triples that are loaded.
+pub record Job : Type 0 where
+  pub actor : Actor
+  pub writing : Option TxnProgress
+  pub locked : Bool
+  pub triples : List Triple
+
+abbrev pub writing_of : Task → Option TxnProgress
+writing_of Rest = None
+writing_of (Get key) = None
+writing_of (Next range) = None
+writing_of (Put key plain) = None
+writing_of (Writes progress) = Some progress
+
+abbrev pub job_of : Progress → List Triple → Job
+job_of progress triples = record { actor = progress.actor; writing = writing_of progress.task; locked = progress.locked; triples = triples }
+
+-- ---- what it has gathered
+
+-- What is carried out, what is gathered to be written, and, while a triple is read, how much of that stays where the
+-- triple is found: first nothing is asked, then a triple's row is read while its writes stand behind those of the triples
+-- that weren't found, and at last those are carried out.
+abbrev pub IsTask : Task → Actor → List Triple → List Write → Option ℕ → Type 0
+IsTask Rest actor triples writes kept = (kept ≡ None) × (length actor.answers < length triples) × (writes ≡ load_writes (absent_of triples actor.answers))
+IsTask (Get key) actor triples writes kept = (kept ≡ Some (length (load_writes (absent_of triples actor.answers)))) ×
+    (triple : Triple) × (slice_get triples (length actor.answers) ≡ Some triple) × (key ≡ triple_key Spo triple) ×
+    (writes ≡ load_writes (absent_of triples actor.answers) ++ triple_writes triple)
+IsTask (Next range) actor triples writes kept = ⊥
+IsTask (Put key plain) actor triples writes kept = ⊥
+IsTask (Writes progress) actor triples writes kept = (kept ≡ None) × (length actor.answers ≡ length triples) × (progress.transaction.writes ≡ load_writes (absent_of triples actor.answers))
+
+pub record IsAtWork (progress : Progress) (triples : List Triple) (writes : List Write) (kept : Option ℕ) : Type 0 where
+  pub load : IsLoad progress.actor.start triples
+  pub reads : AreReadOf triples progress.actor.answers
+  pub transaction : progress.actor.transaction ≡ transaction_of progress.task
+  pub task : IsTask progress.task progress.actor triples writes kept
+
+-- ---- a step
+
+-- something is carried out
+abbrev pub IsBusy : Task → Type 0
+IsBusy Rest = ⊥
+IsBusy _ = Unit {0}
+
+-- what a step of the actor leaves of it, by what it tells
+abbrev pub IsAfter : Progress → ActorEvent → Progress → Type 0
+IsAfter before event.Rests after = before.task ≡ Rest
+IsAfter before event.Answered after = (answer : Answer) × IsAnswerOf before.task answer × (after ≡ with_held before answer)
+IsAfter before event.Met after = (key : Key) × (lock : Lock) × (after ≡ with_met before key lock)
+IsAfter before (event.Recovers told) after = (progress : RecoveryProgress) × (after ≡ with_recovered before told progress)
+IsAfter before (event.Put applied) after = (key : Key) × (plain : Plain) × (before.task ≡ Put key plain)
+IsAfter before (event.Writes told) after =
+    (txn : TxnProgress) × (next : TxnProgress) × (before.task ≡ Writes txn) × (next.transaction.writes ≡ txn.transaction.writes) × (after ≡ with_txn before next)
+
+-- the load was at work, and its actor made a step
+abbrev pub HasStepped : List Triple → List Write → Option ℕ → ActorEvent → Progress → Type 0
+HasStepped triples writes kept told after = (before : Progress) × IsAtWork before triples writes kept × IsBusy before.task × IsAfter before told after
+
+-- it goes on as it is, or has its writes
+abbrev pub GoesOn : Progress → Progress → Type 0
+GoesOn before after = (after ≡ before) ⊎
+    ((writes : List Write) × (before.actor.transaction ≡ new_transaction []) × (are_distinct writes ≡ true) × (after ≡ with_task before (Writes (new_txn before.actor.start writes))))
+
+-- the row that was read has a value
+abbrev pub is_found : Option Answer → Bool
+is_found (Some (OfRow key (Some value))) = true
+is_found _ = false
+
+-- the writes that stay where a triple was found, or wasn't
+abbrev pub kept_writes : Option ℕ → Bool → List Write → List Write
+kept_writes None found writes = writes
+kept_writes (Some len) true writes = take len writes
+kept_writes (Some len) false writes = writes
