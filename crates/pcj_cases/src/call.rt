@@ -1,7 +1,8 @@
 use crate::answer::Answer;
 use crate::unanswered::Unanswered;
 use crate::{
-    act, bytes, document, grammar, items, key, name, range, row, term, text, token, transcript,
+    act, bytes, document, grammar, items, key, name, range, row, script, term, text, token,
+    transcript,
 };
 use pcj_term::Bytes;
 use std::alloc::Global;
@@ -86,12 +87,15 @@ fn making(
         "commit_row" => act::commit_case(alloc, out, arguments),
         "integer_of" | "print_term" => term::term_case(alloc, out, call, arguments),
         "join_parts" => key::join_case(alloc, out, arguments),
+        "next_command" => script::next_case(alloc, out, arguments),
+        "next_long" => script::long_case(alloc, out, arguments),
         "next_token" => token::next_case(alloc, out, arguments),
         "nt_number" => document::number_case(alloc, out, arguments),
         "prefix_end" => key::prefix_case(alloc, out, arguments),
         "prewrite" => act::prewrite_case(alloc, out, arguments),
         "roll_back_row" => act::roll_back_case(alloc, out, arguments),
         "roll_forward_row" => act::roll_forward_case(alloc, out, arguments),
+        "script" => script::script_case(alloc, out, arguments),
         "split_parts" => key::split_case(alloc, out, arguments),
         "triple_key" => name::triple_key_case(alloc, out, arguments),
         "triple_rows" => term::triple_case(alloc, out, call, arguments),

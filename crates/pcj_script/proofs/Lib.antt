@@ -1,0 +1,10 @@
+pub mod FrontLaws
+pub mod FrontLemmas
+pub mod LineLemmas
+pub mod NumberLemmas
+pub mod OpeningLemmas
+pub mod PieceLaws
+pub mod ScriptLaws
+pub mod TextEnds
+pub mod TextLemmas
+pub mod WordLemmas

@@ -1,0 +1,11 @@
+pub mod Commands
+pub mod Front
+pub mod Kind
+pub mod Laws
+pub mod Lines
+pub mod Places
+pub mod Reading
+pub mod Script
+pub mod TextReading
+pub mod Told
+pub mod Words
