@@ -64,8 +64,7 @@ pub recovery_goes_on : (number : ℕ) (self : Progress) (start : ℕ) (answers :
     progress_as start answers task before ≡ self → before ≡ Some old → TimesInOrder (row_at table) → RecoverySteps old table event new table' →
     (moves : List Move) × AreAllStepMoves self.task moves × Makes moves number (row_at table) self.actor number (row_at table') (actor_of start answers (transaction_of task) (Some new))
 recovery_goes_on number self start answers task before old new table table' event view is order steps =
-    let moved = recovery_steps_are_moves number (actor_of start answers (transaction_of task) before) old.recovery old.locked new table table' event (ap recovery_of is) order steps in
-    (
+    let moved = recovery_steps_are_moves number (actor_of start answers (transaction_of task) before) old.recovery old.locked new table table' event (ap recovery_of is) order steps in (
       moved.0,
       recovery_moves_are_steps self.task old.recovery event moved.0 moved.1,
       subst (λ (p : Progress). Makes moved.0 number (row_at table) p.actor number (row_at table') (actor_of start answers (transaction_of task) (Some new))) view moved.2,
