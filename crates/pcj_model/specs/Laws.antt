@@ -1,6 +1,7 @@
 -- What was said can be told from its print, line by line.
-use Rattle.std.specs.Prelude.{◌≡◌, ℕ, ◌<◌, ◌^◌, true, not, ◌==◌, List, [], ◌∷◌, ◌++◌, map}
+use Rattle.std.specs.Prelude.{◌≡◌, ℕ, ◌<◌, ◌^◌, true, not, ◌==◌, List, [], ◌∷◌, ◌++◌, map, Option}
 use Rattle.std.specs.List.{list_all, slice_split, AllByRecursion}
+use Rattle.pcj_model.specs.Job.{Job, StepsReply}
 use Rattle.pcj_model.specs.Line.{Event, Line, line_text, printed}
 use Rattle.pcj_model.specs.Line.Event.{Loaded, Registered, Busy, Refused, Committed, Done, Aborted, Taken, Nothing, Fault, Steps, Crashed}
 use Rattle.pcj_model.specs.Line.Line.{Client, AllCrashed, OracleCrashed, Status, StatusFault, Row, Rows, NoQuery, AnswersFault, Spent, Script}
@@ -40,6 +41,15 @@ IsLine AnswersFault = Unit {0}
 IsLine Spent = Unit {0}
 IsLine (Script line kind) = Fits64 line
 
+-- ---- prints
+
 -- between the LFs of a print stand the lines, and nothing behind the last
 abbrev pub StandApart : Type 0
 StandApart = (lines : List Line) → AllByRecursion IsLine lines → slice_split (λ byte. byte == 10) (printed lines) ≡ map line_text lines ++ [] ∷ []
+
+-- ---- steps
+
+-- the lines of a command's steps tell whether the job was committed, with which number, and what is left of it
+abbrev pub AreTold : Type 0
+AreTold = (job : Job) (client most : ℕ) (lines : List Line) (commit other : Option ℕ) (after left : Option Job) →
+    StepsReply job client most lines commit after → StepsReply job client most lines other left → (commit ≡ other) × (after ≡ left)
