@@ -1,7 +1,7 @@
 use crate::answer::Answer;
 use crate::unanswered::Unanswered;
 use crate::{
-    act, bytes, document, grammar, items, key, name, range, row, script, term, text, token,
+    act, bytes, document, grammar, items, key, name, range, row, said, script, term, text, token,
     transcript,
 };
 use pcj_term::Bytes;
@@ -34,6 +34,7 @@ fn pushing(
     arguments: &[Bytes],
 ) -> Result<(), Unanswered> {
     match call {
+        "push_said" | "push_twice" => said::said_case(alloc, out, call, arguments),
         "push_term" => term::push_case(alloc, out, arguments),
         _ => transcript::line_case(alloc, out, call, arguments),
     }

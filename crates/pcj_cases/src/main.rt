@@ -22,6 +22,7 @@ mod key;
 mod name;
 mod range;
 mod row;
+mod said;
 mod script;
 mod term;
 mod text;

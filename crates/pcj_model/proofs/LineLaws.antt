@@ -1,5 +1,5 @@
 -- No line has an LF inside.
-use Rattle.std.proofs.Common.{◌≡◌, ℕ, ◌<◌, Bool, true, false, List, [], ◌∷◌, ◌++◌, Result, Ok, Err, refl, ap, ◌∙◌, arith, append_assoc}
+use Rattle.std.proofs.Common.{◌≡◌, ℕ, ◌<◌, Bool, true, false, List, [], ◌∷◌, ◌++◌, Result, Ok, Err, refl, ap, sym, ◌∙◌, arith, append_assoc, ◌≤◌, length, take, map}
 use Rattle.std.specs.Prelude.{◌==◌, not, codes, OnErr}
 use Rattle.std.specs.Fmt.{decimal}
 use Rattle.std.specs.List.{slice_split, onto_first}
@@ -12,11 +12,11 @@ use Rattle.pcj_lines.specs.Lines.{client_name}
 use Rattle.pcj_script.specs.declared.error.ScriptKind.{ScriptKind}
 use Rattle.pcj_script.specs.declared.error.ScriptKind.TheVariants.{UnknownCommand, BadActor, BadNumber, BadName, MissingEnd, TooLong, TooMuch}
 use Rattle.pcj_script.specs.Kind.{number_of}
-use Rattle.pcj_model.specs.declared.event.Event.{Event}
-use Rattle.pcj_model.specs.declared.event.Event.TheVariants.{Loaded, Registered, Busy, Refused, Committed, Done, Aborted, Taken, Nothing, Fault, Steps, Crashed}
-use Rattle.pcj_model.specs.declared.line.Line.{Line}
-use Rattle.pcj_model.specs.declared.line.Line.TheVariants.{Client, AllCrashed, OracleCrashed, Status, StatusFault, Row, Rows, NoQuery, AnswersFault, Spent, Script}
-use Rattle.pcj_model.specs.Line.{event_text, line_text, printed}
+use Rattle.std.proofs.lemmas.List.{length-map, take-map}
+use Rattle.pcj_model.specs.declared.line.Line.{Line as Told}
+use Rattle.pcj_model.specs.Line.{Event, Line, line_of, event_text, line_text, printed, StandsInPart}
+use Rattle.pcj_model.specs.Line.Event.{Loaded, Registered, Busy, Refused, Committed, Done, Aborted, Taken, Nothing, Fault, Steps, Crashed}
+use Rattle.pcj_model.specs.Line.Line.{Client, AllCrashed, OracleCrashed, Status, StatusFault, Row, Rows, NoQuery, AnswersFault, Spent, Script}
 use Rattle.pcj_model.specs.Laws.{HasNoFeed, Fits64, IsEvent, IsLine, StandApart}
 
 abbrev is_other : ℕ → Bool
@@ -64,7 +64,7 @@ event_is_clean : (client : ℕ) (event : Event) → Fits64 client → IsEvent ev
 event_is_clean client (Loaded number triples) c h =
     then_text (codes " triples") refl (then_number triples h.1 (then_text (codes " ") refl (then_number number h.0 (then_text (codes " load ") refl (client_part client c)))))
 event_is_clean client (Registered number name) c h =
-    then_text name.now h.1 (then_text (codes " ") refl (then_number number h.0 (then_text (codes " register ") refl (client_part client c))))
+    then_text name h.1 (then_text (codes " ") refl (then_number number h.0 (then_text (codes " register ") refl (client_part client c))))
 event_is_clean client Busy c h = then_text (codes " refused busy") refl (client_part client c)
 event_is_clean client (Refused place kind) c h =
     then_number kind h.1 (then_text (codes " ") refl (then_number place h.0 (then_text (codes " refused ") refl (client_part client c))))
@@ -93,13 +93,13 @@ line_is_clean OracleCrashed h = fixed (codes "oracle crashed") refl
 line_is_clean (Status notifications locks) h =
     then_number locks h.1 (then_text (codes " locks ") refl (then_number notifications h.0 (fixed (codes "notifications ") refl)))
 line_is_clean StatusFault h = fixed (codes "status fault") refl
-line_is_clean (Row row) h = fixed row.now h
+line_is_clean (Row row) h = fixed row h
 line_is_clean (Rows count) h = then_number count h (fixed (codes "rows ") refl)
-line_is_clean (NoQuery name) h = then_text name.now h (fixed (codes "no query ") refl)
+line_is_clean (NoQuery name) h = then_text name h (fixed (codes "no query ") refl)
 line_is_clean AnswersFault h = fixed (codes "answers fault") refl
 line_is_clean Spent h = fixed (codes "spent") refl
-line_is_clean (Script error) h =
-    then_number (number_of error.kind) (kind_fits error.kind) (then_text (codes " ") refl (then_number error.line h (fixed (codes "script ") refl)))
+line_is_clean (Script line kind) h =
+    then_number (number_of kind) (kind_fits kind) (then_text (codes " ") refl (then_number line h (fixed (codes "script ") refl)))
 
 -- ---- a print, taken apart
 
@@ -122,3 +122,7 @@ stand_apart (line ∷ lines) h =
 pub on_err : {A E : Type 0} (result : Result A E) (P : Type 0) → P → OnErr result P
 on_err (Ok x) P p = tt
 on_err (Err e) P p = p
+
+pub in_part : (lines : List Told) (count : ℕ) (old new : List ℕ) → count ≤ length lines → new ≡ old ++ printed (map line_of (take count lines)) → StandsInPart (map line_of lines) old new
+in_part lines count old new some is =
+    record { count = count; some = omega (arith, some, length-map lines line_of); is = is ∙ ap (λ ls. old ++ printed ls) (sym (take-map line_of count lines)) }

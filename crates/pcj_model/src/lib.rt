@@ -1,7 +1,8 @@
 //! What the program says: the lines of a transcript as values, and how they are printed.
 //!
 //! `Line` has a variant for each kind of line that commands may answer, and `push_line` prints them all. No line has an
-//! LF inside, so that what was said can be told from its print: `lines_stand_apart` is the proof.
+//! LF inside, so that what was said can be told from its print: `lines_stand_apart` is the proof. What a client's steps
+//! came to can be told from their lines: `steps_are_told` is the proof.
 #![tactic(auto)]
 
 mod event;
@@ -10,6 +11,6 @@ mod line;
 mod print;
 
 pub use event::Event;
-pub use laws::lines_stand_apart;
+pub use laws::{lines_stand_apart, steps_are_told};
 pub use line::Line;
 pub use print::{push_line, push_lines};

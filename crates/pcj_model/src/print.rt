@@ -2,7 +2,7 @@ ghost use Rattle.std.specs.Prelude.{◌≡◌, ◌++◌, map, OnOk, OnErr};
 ghost use Rattle.std.specs.List.{flat_map};
 ghost use Rattle.pcj_lines.specs.Lines.{ended, client_name, registered_line};
 ghost use Rattle.pcj_script.specs.Kind.{number_of};
-ghost use Rattle.pcj_model.specs.Line.{event_text, line_text, steps_line, status_line, script_line, printed, StandsInPart};
+ghost use Rattle.pcj_model.specs.Line.{event_of, line_of, event_text, line_text, steps_line, status_line, script_line, printed, StandsInPart};
 
 use crate::event::Event;
 use crate::line::Line;
@@ -13,7 +13,7 @@ use std::alloc::Global;
 
 /// Adds the line with its LF. After want of memory the bytes are as they were.
 pub fn push_line(alloc: Global, out: &mut Bytes, line: Line<'_>) -> Result<(), Memory>
-    ensures ok { OnOk result (out.new ≡ out.old ++ ended (line_text line.entry)) }
+    ensures ok { OnOk result (out.new ≡ out.old ++ ended (line_text (line_of line.entry))) }
     ensures err { OnErr result (out.new ≡ out.old) }
 {
     match line {
@@ -38,7 +38,7 @@ pub fn push_line(alloc: Global, out: &mut Bytes, line: Line<'_>) -> Result<(), M
 
 /// Adds the line of a client's event.
 fn push_event(alloc: Global, out: &mut Bytes, client: u8, event: Event<'_>) -> Result<(), Memory>
-    ensures ok { OnOk result (out.new ≡ out.old ++ ended (event_text client event.entry)) }
+    ensures ok { OnOk result (out.new ≡ out.old ++ ended (event_text client (event_of event.entry))) }
     ensures err { OnErr result (out.new ≡ out.old) }
 {
     match event {
@@ -113,8 +113,8 @@ fn push_refused_line(alloc: Global, out: &mut Bytes, error: ScriptError) -> Resu
 
 /// Adds the lines, one after another. After want of memory some of them may stand, each whole.
 pub fn push_lines(alloc: Global, out: &mut Bytes, lines: &[Line<'_>]) -> Result<(), Memory>
-    ensures ok { OnOk result (out.new ≡ out.old ++ printed lines.now) }
-    ensures err { OnErr result (StandsInPart lines.now out.old out.new) }
+    ensures ok { OnOk result (out.new ≡ out.old ++ printed (map line_of lines.now)) }
+    ensures err { OnErr result (StandsInPart (map line_of lines.now) out.old out.new) }
 {
     for line in lines {
         push_line(alloc, out, *line)?;
