@@ -8,3 +8,4 @@ pub mod TestsRead
 pub mod ConditionsRead
 pub mod GroupsRead
 pub mod Levels
+pub mod SomePattern

@@ -1,5 +1,5 @@
 -- The lowest place so far, and those to come.
-use Rattle.std.proofs.Common.{◌≡◌, ℕ, ◌+◌, ◌<◌, min, Bool, true, false, cond, List, [], ◌∷◌, length, drop, map, filter, get_or, ◌++◌, Option, Some, None, refl, ap, sym, ◌∙◌, arith, add-one, drop-cons}
+use Rattle.std.proofs.Common.{◌≡◌, ℕ, ◌+◌, ◌<◌, Bool, true, false, cond, List, [], ◌∷◌, length, drop, map, filter, get_or, ◌++◌, Option, Some, None, refl, ap, sym, ◌∙◌, arith, add-one, drop-cons}
 use Rattle.pcj_grammar.specs.declared.lexeme.Lexeme.{Lexeme}
 use Rattle.pcj_translate.specs.Uses.{place_of}
 use Rattle.pcj_translate.specs.Places.{lower, lowest_of, lower_of}

@@ -1,0 +1,5 @@
+pub mod OneQuery
+pub mod Lowest
+pub mod HeadingRead
+pub mod HeadRead
+pub mod Declarations

@@ -1,0 +1,5 @@
+pub mod Kind
+pub mod Query
+pub mod Reading
+pub mod Heading
+pub mod Clauses
