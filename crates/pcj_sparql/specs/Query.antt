@@ -30,7 +30,7 @@ use Rattle.pcj_sparql.specs.declared.kind.QueryKind.TheVariants as kinds
 use Rattle.pcj_translate.specs.Term.{Declaration, Scope, source_of, prefix_of, inside_of, iri_of, namespace_of, variable_of}
 use Rattle.pcj_translate.specs.Triples.{token_of}
 use Rattle.pcj_translate.specs.Group.{group_by}
-use Rattle.pcj_translate.specs.Variables.{variables_of, variables_in, has_variable, triple_count, node_count}
+use Rattle.pcj_translate.specs.Variables.{variables_of, variables_in, has_variable, distinct_variables, triple_count, node_count}
 use Rattle.pcj_translate.specs.Uses.{place_of, unknown_among, bare_groups, unknown_in_group, uneven_in_group}
 
 -- ---- the parts of a query
@@ -235,11 +235,6 @@ items_uses (i ∷ rest) = said_uses i ++ items_uses rest
 
 abbrev pub unknown : Parts → List ℕ
 unknown p = unknown_among p.scope (variables_in p.pattern) (items_uses p.items ++ p.keys) ++ p.unknown
-
--- each variable once
-abbrev pub distinct_variables : List (List ℕ) → List (List ℕ)
-distinct_variables [] = []
-distinct_variables (variable ∷ variables) = if has_variable variables variable then distinct_variables variables else variable ∷ distinct_variables variables
 
 abbrev pub is_large : Pattern → Bool
 is_large pattern = nat_lt 16 (triple_count pattern) || nat_lt 32 (length (distinct_variables (variables_of pattern))) || nat_lt 128 (node_count pattern)

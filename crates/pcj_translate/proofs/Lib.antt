@@ -9,3 +9,4 @@ pub mod ConditionsRead
 pub mod GroupsRead
 pub mod Levels
 pub mod SomePattern
+pub mod SetsOfNames

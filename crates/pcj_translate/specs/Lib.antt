@@ -3,6 +3,7 @@ pub mod Triples
 pub mod Filter
 pub mod Group
 pub mod Variables
+pub mod Names
 pub mod Uses
 pub mod Reading
 pub mod ValueReading

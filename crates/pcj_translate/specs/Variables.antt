@@ -1,5 +1,5 @@
 -- The variables and the size of patterns.
-use Rattle.std.specs.Prelude.{ℕ, ◌+◌, Bool, ◌&&◌, List, [], ◌∷◌, ◌++◌, Option, Some, None}
+use Rattle.std.specs.Prelude.{ℕ, ◌+◌, Bool, ◌&&◌, List, [], ◌∷◌, ◌++◌, Option, Some, None, if◌then◌else◌}
 use Rattle.std.specs.List.{list_any, list_all}
 use Rattle.pcj_term.specs.Order.{same_bytes}
 use Rattle.pcj_algebra.specs.declared.triple_pattern.Slot.{Slot}
@@ -31,6 +31,11 @@ variables_in (Some pattern) = variables_of pattern
 
 abbrev pub has_variable : List (List ℕ) → List ℕ → Bool
 has_variable variables variable = list_any (λ other. same_bytes other variable) variables
+
+-- each variable once
+abbrev pub distinct_variables : List (List ℕ) → List (List ℕ)
+distinct_variables [] = []
+distinct_variables (variable ∷ variables) = if has_variable variables variable then distinct_variables variables else variable ∷ distinct_variables variables
 
 -- two lists with the same variables
 abbrev pub same_variables : List (List ℕ) → List (List ℕ) → Bool

@@ -6,11 +6,13 @@
 
 mod content;
 mod joining;
+mod name_set;
 mod places;
 mod reader;
 mod scope;
 mod source;
 
+pub use name_set::NameSet;
 pub use places::{lower, lower_of};
 pub use reader::Reader;
 pub use scope::Prefixes;
