@@ -9,3 +9,7 @@ with_name set name = if has_variable set name then set else set ++ name ∷ []
 pub record IsSetOf (names set : List (List ℕ)) : Type 0 where
   pub members : (name : List ℕ) → has_variable set name ≡ has_variable names name
   pub count : length set ≡ length (distinct_variables names)
+
+abbrev pub with_names : List (List ℕ) → List (List ℕ) → List (List ℕ)
+with_names set [] = set
+with_names set (name ∷ names) = with_names (with_name set name) names

@@ -1,6 +1,7 @@
 ghost use Rattle.std.specs.Prelude.{◌≡◌, ℕ, List, [], ◌++◌, length, OnOk};
-ghost use Rattle.pcj_translate.specs.Names.{with_name, IsSetOf};
-ghost use Rattle.pcj_translate.specs.Variables.{has_variable, slot_variables, triple_variables, variables_of};
+ghost use Rattle.std.specs.List.{list_all};
+ghost use Rattle.pcj_translate.specs.Names.{with_name, with_names, IsSetOf};
+ghost use Rattle.pcj_translate.specs.Variables.{has_variable, same_variables, slot_variables, triple_variables, variables_of};
 
 use indexmap::IndexSet;
 use pcj_algebra::{Pattern, Slot, TriplePattern};
@@ -8,7 +9,7 @@ use pcj_term::{Bytes, Memory};
 use std::alloc::Global;
 use std::marker::Model;
 
-/// NameSet of variables, each once, in the order in which they were added.
+/// Names of variables, each once, in the order in which they were added.
 #[derive(Drop)]
 pub struct NameSet {
     inside: IndexSet<Bytes>,
@@ -53,6 +54,30 @@ impl NameSet {
         let name = Bytes::from_slice(alloc, name)?;
         self.inside.insert(name)?;
         Ok(())
+    }
+
+    /// Adds the names of another set.
+    pub fn add_all(&mut self, alloc: Global, other: &NameSet) -> Result<(), Memory>
+        ensures { OnOk result (self.new ≡ with_names self.old other.now) }
+    {
+        for name in other.inside.as_slice() {
+            self.add(alloc, name.as_slice())?;
+        }
+        Ok(())
+    }
+
+    /// Whether each name of another set is among them.
+    fn has_all(&self, other: &NameSet) -> bool
+        ensures { result ≡ list_all (has_variable self.now) other.now }
+    {
+        other.inside.iter().all(|name| self.has(name))
+    }
+
+    /// Whether another set has the same names.
+    pub fn same(&self, other: &NameSet) -> bool
+        ensures { result ≡ same_variables self.now other.now }
+    {
+        other.has_all(self) && self.has_all(other)
     }
 
     /// Adds the variable of a slot, where it has one.
