@@ -75,19 +75,19 @@ other_joint scope n before x z joint at reads y (by (right (one_after group unio
 
 -- ---- the parts of a group
 
-past_others : (u w y : List Lexeme) → Derives others_form u w → Derives (word t.CloseBrace) w y → IsPastBlock u
+pub past_others : (u w y : List Lexeme) → Derives others_form u w → Derives (word t.CloseBrace) w y → IsPastBlock u
 past_others [] w y d c = tt
 past_others (l ∷ u) w y end (is q) = ap ends_block q
 past_others (l ∷ u) w y (again (one_after (by (left (one_after (is q) i))) b) more) c = ap ends_block q
 past_others (l ∷ u) w y (again (one_after (by (right (one_after (by (one_after (is q) i)) unions))) b) more) c = ap ends_block q
 
 -- a token that is no dot and no UNION
-abbrev is_plain : Terminal → Bool
+abbrev pub is_plain : Terminal → Bool
 is_plain t.Dot = false
 is_plain t.Union = false
 is_plain _ = true
 
-abbrev IsPlain : List Lexeme → Type 0
+abbrev pub IsPlain : List Lexeme → Type 0
 IsPlain [] = Unit {0}
 IsPlain (l ∷ x) = is_plain l.terminal ≡ true
 
@@ -106,7 +106,7 @@ value_plain t.Integer e = refl
 value_plain t.Text e = refl
 value_plain _ e = absurd cc
 
-plain_block : (u v : List Lexeme) → Derives block_form u v → IsPastBlock v → IsPlain u
+pub plain_block : (u v : List Lexeme) → Derives block_form u v → IsPastBlock v → IsPlain u
 plain_block [] v d past = tt
 plain_block (l ∷ u) v without past = block_plain l.terminal past
 plain_block (l ∷ u) v (with_it b) past = value_plain l.terminal (block_begins (l ∷ u) v b)
@@ -127,11 +127,11 @@ no_union_plain : (u : List Lexeme) → IsPlain u → begins_union u ≡ false
 no_union_plain [] plain = refl
 no_union_plain (l ∷ u) plain = plain_no_union l.terminal plain
 
-behind_maybe : (u v : List Lexeme) → Derives (maybe (word t.Dot)) u v → IsPlain v → behind_dot u ≡ v
+pub behind_maybe : (u v : List Lexeme) → Derives (maybe (word t.Dot)) u v → IsPlain v → behind_dot u ≡ v
 behind_maybe u v without plain = behind_plain u plain
 behind_maybe u v (with_it (is {l = l} q)) plain = ap (λ (k : Terminal). behind_dot_by (is_dot k) l v) q
 
-no_union_maybe : (u v : List Lexeme) → Derives (maybe (word t.Dot)) u v → IsPlain v → begins_union u ≡ false
+pub no_union_maybe : (u v : List Lexeme) → Derives (maybe (word t.Dot)) u v → IsPlain v → begins_union u ≡ false
 no_union_maybe u v without plain = no_union_plain u plain
 no_union_maybe u v (with_it (is q)) plain = ap is_union q
 

@@ -7,7 +7,7 @@ use Rattle.pcj_translate.specs.Places.{lower, lowest_of, lower_of}
 abbrev pub lowest_in : (Lexeme → Bool) → List Lexeme → Option ℕ
 lowest_in test ls = lowest_of (map place_of (filter test ls))
 
-exchanged : (place : ℕ) (old later : Option ℕ) → lower_of (lower place old) later ≡ lower_of old (lower place later)
+pub exchanged : (place : ℕ) (old later : Option ℕ) → lower_of (lower place old) later ≡ lower_of old (lower place later)
 exchanged place None later = refl
 exchanged place (Some other) None = ap (λ (n : ℕ). Some n) (omega arith)
 exchanged place (Some other) (Some third) = ap (λ (n : ℕ). Some n) (omega arith)
@@ -29,7 +29,7 @@ pub place_passed : (test : Lexeme → Bool) (ls : List Lexeme) (i : ℕ) (d : Le
 place_passed test ls i d old within fails =
     ap (lower_of old) (sym (head_step test (get_or ls i d) (drop (i + 1) ls) false fails) ∙ ap (λ (x : List Lexeme). lowest_in test (get_or ls i d ∷ x)) (ap (λ (n : ℕ). drop n ls) (add-one i)) ∙ ap (lowest_in test) (sym (drop-cons ls i d within)))
 
-lower_both : (place : ℕ) (o other : Option ℕ) → lower place (lower_of o other) ≡ lower_of (lower place o) other
+pub lower_both : (place : ℕ) (o other : Option ℕ) → lower place (lower_of o other) ≡ lower_of (lower place o) other
 lower_both place None other = refl
 lower_both place (Some n) None = refl
 lower_both place (Some n) (Some m) = ap (λ (k : ℕ). Some k) (omega arith)

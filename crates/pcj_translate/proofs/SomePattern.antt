@@ -18,7 +18,7 @@ use Rattle.pcj_translate.specs.Uses.{is_bare_block, are_bare, bare_groups, bare_
 abbrev pub HasPattern : Option Pattern → Type 0
 HasPattern o = (p : Pattern) × (o ≡ Some p)
 
-abbrev HasSome : List TriplePattern → Type 0
+abbrev pub HasSome : List TriplePattern → Type 0
 HasSome ts = (first : TriplePattern) × (more : List TriplePattern) × (ts ≡ first ∷ more)
 
 no_parts : {A : Type 0} (xs ys : List A) → xs ++ ys ≡ [] → (xs ≡ []) × (ys ≡ [])
@@ -36,7 +36,7 @@ same_some scope (by (one_after s (one_after v (one_after os more)))) = objects_s
 some_first : (ts more : List TriplePattern) → HasSome ts → HasSome (ts ++ more)
 some_first ts more h = (h.0, h.1 ++ more, ap (λ (l : List TriplePattern). l ++ more) h.2)
 
-block_some : {x y : List Lexeme} (scope : Scope) (d : Derives (name g.Block) x y) → HasSome (block_triples scope d)
+pub block_some : {x y : List Lexeme} (scope : Scope) (d : Derives (name g.Block) x y) → HasSome (block_triples scope d)
 block_some scope (by (one_after s without)) = same_some scope s
 block_some scope (by (one_after s (with_it (one_after d without)))) = same_some scope s
 block_some scope (by (one_after s (with_it (one_after d (with_it b))))) = some_first (same_triples scope s) (block_triples scope b) (same_some scope s)

@@ -76,6 +76,10 @@ ReadsBlock scope before x z after = (y : List Lexeme) (d : Derives block_form x 
 abbrev pub ReadsOther : Scope → ℕ → Content → List Lexeme → List Lexeme → Content → Type 0
 ReadsOther scope n before x z after = (y : List Lexeme) (d : Derives (name g.Other) x y) → begins_union y ≡ false → IsWithinOther n d → (z ≡ y) × (after ≡ other_by scope before d)
 
+-- what a group has so far, by a name that crates above can use
+abbrev pub GroupContent : Type 0
+GroupContent = Content
+
 -- what a group has before its first part
 abbrev pub nothing : Content
 nothing = record { pattern = None; condition = None }
