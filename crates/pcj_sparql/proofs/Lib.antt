@@ -3,3 +3,9 @@ pub mod Lowest
 pub mod HeadingRead
 pub mod HeadRead
 pub mod Declarations
+pub mod NameLists
+pub mod UsesRead
+pub mod Shapes
+pub mod Meaning
+pub mod Failing
+pub mod Outcomes

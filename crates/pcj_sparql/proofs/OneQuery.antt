@@ -79,21 +79,21 @@ one_fault text e f (inr (inr (inr a))) (inr (inr (inr b))) =
 
 -- ---- each text has one of the two
 
-derived : (text : List ℕ) (ls : List Lexeme) → IsOfGrammar text ls → Derives (name g.Query) ls []
+pub derived : (text : List ℕ) (ls : List Lexeme) → IsOfGrammar text ls → Derives (name g.Query) ls []
 derived text ls r = r.ends.1
 
 not_failing : (kind : QueryKind) (places : List ℕ) (later : Option QueryError) → failing kind places later ≡ None → (places ≡ []) × (later ≡ None)
 not_failing kind [] later e = (refl, e)
 not_failing kind (place ∷ places) later e = absurd cc
 
-no_bare : (p : Parts) → fault_of p ≡ None → p.bare ≡ []
+pub no_bare : (p : Parts) → fault_of p ≡ None → p.bare ≡ []
 no_bare p e =
     let one = not_failing kinds.UnknownPrefix (undeclared p) _ e in
     let two = not_failing kinds.OutOfProfile (relative p) _ one.1 in
     let three = not_failing kinds.OutOfProfile (misshapen p) _ two.1 in
     (not_failing kinds.OutOfProfile p.bare _ three.1).0
 
-parts_some : {x y : List Lexeme} (text : List ℕ) (d : Derives (name g.Query) x y) → (parts_of text d).bare ≡ [] → HasPattern (parts_of text d).pattern
+pub parts_some : {x y : List Lexeme} (text : List ℕ) (d : Derives (name g.Query) x y) → (parts_of text d).bare ≡ [] → HasPattern (parts_of text d).pattern
 parts_some text (by (one_after decls (one_after sel (one_after dis (one_after (one_after i more) (one_after wh (one_after group tail))))))) none =
     group_some (scope_of text (declared_by decls)) group none
 

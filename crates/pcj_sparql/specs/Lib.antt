@@ -3,3 +3,4 @@ pub mod Query
 pub mod Reading
 pub mod Heading
 pub mod Clauses
+pub mod Listing

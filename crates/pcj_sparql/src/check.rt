@@ -1,12 +1,19 @@
-ghost use Rattle.std.specs.Prelude.{◌≡◌, IfOk};
-ghost use Rattle.pcj_sparql.specs.Query.{is_name_token, is_iri_token, is_relative};
+ghost use Rattle.std.specs.Prelude.{◌≡◌, map, IfOk};
+ghost use Rattle.pcj_sparql.specs.Query.{is_name_token, is_iri_token, is_relative, relative, too_large};
 ghost use Rattle.pcj_translate.specs.Places.{lowest_of};
 ghost use Rattle.pcj_translate.specs.Reading.{scope_by};
-ghost use Rattle.pcj_sparql.specs.Reading.{is_undeclared, undeclared_among, is_relative_token, relative_among};
+ghost use Rattle.pcj_sparql.specs.Reading.{iri_of, failed_at, is_undeclared, undeclared_among, is_relative_token, relative_among};
+ghost use Rattle.pcj_sparql.specs.Clauses.{parts_in, HasFault};
 
+use crate::clauses::Clauses;
+use crate::declared::Declared;
+use crate::error::QueryError;
+use crate::kind::QueryKind;
+use crate::sizes::is_large;
 use pcj_grammar::{Lexeme, Terminal};
-use pcj_term::{Bytes, Memory, is_absolute};
-use pcj_translate::{Prefixes, lower};
+use pcj_groups::group_faults;
+use pcj_term::{Bytes, Items, Memory, is_absolute};
+use pcj_translate::{Prefixes, lower, lower_of};
 use std::alloc::Global;
 
 fn is_name_token(terminal: Terminal) -> bool
@@ -99,4 +106,76 @@ pub(crate) fn relative(
         }
     }
     Ok(lowest)
+}
+
+/// The IRIs of some declarations.
+fn iris_of(alloc: Global, declared: &[Declared]) -> Result<Items<Lexeme>, Memory>
+    ensures { IfOk result (λ iris. iris ≡ map iri_of declared.now) }
+{
+    let mut iris = Items::new(alloc);
+    for declaration in declared {
+        iris.push(declaration.iri)?;
+    }
+    Ok(iris)
+}
+
+/// A check by the lowest place where it fails, or what comes behind it.
+fn failed_at(
+    kind: QueryKind,
+    lowest: Option<usize>,
+    later: Option<QueryError>,
+) -> Option<QueryError>
+    ensures { result ≡ failed_at kind lowest later }
+{
+    match lowest {
+        None => later,
+        Some(at) => Some(QueryError {
+            at: at as u64,
+            kind,
+        }),
+    }
+}
+
+impl<'t> Clauses<'t> {
+    /// The lowest place of an IRI that isn't absolute, those of declarations among them.
+    fn relative(&self, alloc: Global) -> Result<Option<usize>, Memory>
+        ensures { IfOk result (λ at. at ≡ lowest_of (relative (parts_in self.now))) }
+    {
+        let iris = iris_of(alloc, self.head.declared.as_slice())?;
+        let declared = relative(alloc, self.prefixes, self.text, iris.as_slice())?;
+        let body = relative(alloc, self.prefixes, self.text, self.head.body)?;
+        Ok(lower_of(declared, body))
+    }
+
+    /// The word SELECT, where the pattern passes a limit.
+    fn too_large(&self, alloc: Global) -> Result<Option<usize>, Memory>
+        ensures { IfOk result (λ at. at ≡ lowest_of (too_large (parts_in self.now))) }
+    {
+        if is_large(alloc, &self.pattern)? {
+            Ok(Some(self.head.select.at))
+        } else {
+            Ok(None)
+        }
+    }
+
+    /// The first check that fails, at its lowest place.
+    pub(crate) fn fault(&self, alloc: Global) -> Result<Option<QueryError>, Memory>
+        ensures { IfOk result (HasFault self.now) }
+    {
+        let (text, prefixes, head) = (self.text, self.prefixes, self.head);
+        let undeclared = undeclared(alloc, prefixes, text, head.body)?;
+        let relative = self.relative(alloc)?;
+        let misshapen = self.misshapen(alloc)?;
+        let unknown = self.unknown(alloc)?;
+        let found = group_faults(alloc, text, prefixes, head.group)?;
+        let too_large = self.too_large(alloc)?;
+        let fault = failed_at(QueryKind::TooLarge, too_large, None);
+        let fault = failed_at(QueryKind::UnionVariables, found.uneven, fault);
+        let unknown = lower_of(unknown, found.unknown);
+        let fault = failed_at(QueryKind::UnknownVariable, unknown, fault);
+        let fault = failed_at(QueryKind::OutOfProfile, found.bare, fault);
+        let fault = failed_at(QueryKind::OutOfProfile, misshapen, fault);
+        let fault = failed_at(QueryKind::OutOfProfile, relative, fault);
+        Ok(failed_at(QueryKind::UnknownPrefix, undeclared, fault))
+    }
 }

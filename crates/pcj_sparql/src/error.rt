@@ -1,3 +1,6 @@
+ghost use Rattle.std.specs.Prelude.{◌≡◌};
+ghost use Rattle.pcj_sparql.specs.declared.error.QueryRefusal.TheVariants as refusals;
+
 use crate::kind::QueryKind;
 
 /// A text that is refused.
@@ -16,4 +19,12 @@ pub enum QueryRefusal {
     Refused(QueryError),
     /// There was no memory left, which says nothing of the text.
     Memory,
+}
+
+impl From<pcj_term::Memory> for QueryRefusal {
+    ghost from_gives = { λ _ refusal. refusal ≡ refusals.Memory };
+
+    fn from(_memory: pcj_term::Memory) -> QueryRefusal {
+        QueryRefusal::Memory
+    }
 }
