@@ -1,4 +1,4 @@
-ghost use Rattle.std.specs.Prelude.{◌≡◌, List, [], IfOk};
+ghost use Rattle.std.specs.Prelude.{◌≡◌, List, [], Option, IfOk};
 ghost use Rattle.pcj_grammar.specs.declared.lexeme.Lexeme.{Lexeme};
 ghost use Rattle.pcj_grammar.specs.Grammar.{name, Derives};
 ghost use Rattle.pcj_grammar.specs.Grammar as g;
@@ -13,6 +13,7 @@ use pcj_algebra::Pattern;
 use pcj_grammar::Lexeme;
 use pcj_term::{Items, Memory};
 use pcj_translate::{Prefixes, Reader};
+use sqlite_items::Boxed;
 use std::alloc::Global;
 
 /// The clauses of a query: SELECT, WHERE and GROUP BY.
@@ -22,7 +23,7 @@ pub(crate) struct Clauses<'t> {
     pub(crate) prefixes: &'t Prefixes,
     pub(crate) head: &'t Head<'t>,
     /// That of the group, if it has any.
-    pub(crate) pattern: Option<Pattern>,
+    pub(crate) pattern: Option<Boxed<Pattern>>,
     /// The variables of GROUP BY.
     pub(crate) keys: Items<Lexeme>,
 }
@@ -44,7 +45,7 @@ pub(crate) fn clauses_of<'t>(
         prefixes,
         rest: head.group,
     };
-    let pattern = reader.group(alloc, 64)?;
+    let pattern = boxed(alloc, reader.group(alloc, 64)?)?;
     let mut heading = Heading { rest: reader.rest };
     let keys = heading.keys(alloc)?;
     Ok(Clauses {
@@ -54,4 +55,14 @@ pub(crate) fn clauses_of<'t>(
         pattern,
         keys,
     })
+}
+
+/// The pattern in a box, which is let go in one place.
+fn boxed(alloc: Global, pattern: Option<Pattern>) -> Result<Option<Boxed<Pattern>>, Memory>
+    ensures { IfOk result (λ boxed. boxed ≡ pattern) }
+{
+    match pattern {
+        None => Ok(None),
+        Some(pattern) => Ok(Some(Boxed::new(alloc, pattern)?)),
+    }
 }

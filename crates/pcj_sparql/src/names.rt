@@ -10,6 +10,7 @@ use pcj_algebra::Pattern;
 use pcj_grammar::Lexeme;
 use pcj_term::{Bytes, Items, Memory};
 use pcj_translate::{NameSet, behind_first, source_of};
+use sqlite_items::Boxed;
 use std::alloc::Global;
 
 /// A variable's name, without its sign.
@@ -57,14 +58,17 @@ pub(crate) fn set_of(alloc: Global, names: &[Bytes]) -> Result<NameSet, Memory>
 }
 
 /// The names of a pattern's variables.
-pub(crate) fn pattern_names(alloc: Global, pattern: &Option<Pattern>) -> Result<NameSet, Memory>
+pub(crate) fn pattern_names(
+    alloc: Global,
+    pattern: &Option<Boxed<Pattern>>,
+) -> Result<NameSet, Memory>
     ensures { IfOk result (λ set. IsSetOf (variables_in pattern.now) set) }
 {
     let mut set = NameSet::new(alloc);
     match pattern {
         None => Ok(set),
         Some(pattern) => {
-            set.add_pattern(alloc, pattern)?;
+            set.add_pattern(alloc, pattern.get())?;
             Ok(set)
         }
     }

@@ -9,6 +9,7 @@ use crate::head::head_of;
 use crate::prefixes::prefixes_of;
 use pcj_algebra::{Pattern, Query, Shape};
 use pcj_grammar::Lexeme;
+use sqlite_items::Boxed;
 use std::alloc::Global;
 
 /// The query of a text of the grammar, by its tokens.
@@ -43,13 +44,16 @@ fn checked(alloc: Global, clauses: &Clauses) -> Result<Shape, QueryRefusal>
 }
 
 /// The query of a shape and a pattern.
-fn of_shape(shape: Shape, pattern: Option<Pattern>) -> Query
+fn of_shape(shape: Shape, pattern: Option<Boxed<Pattern>>) -> Query
     requires { is_some pattern ≡ true }
     ensures shape { result.shape ≡ shape }
     ensures pattern { pattern ≡ Some result.pattern }
 {
     match pattern {
-        Some(pattern) => Query { shape, pattern },
+        Some(pattern) => Query {
+            shape,
+            pattern: pattern.into_inner(),
+        },
         None => unreachable!(),
     }
 }

@@ -6,6 +6,7 @@ ghost use Rattle.pcj_sparql.specs.Listing.{nodes_in};
 use crate::names::pattern_names;
 use pcj_algebra::Pattern;
 use pcj_term::Memory;
+use sqlite_items::Boxed;
 use std::alloc::Global;
 
 /// How many triple patterns a query may have.
@@ -18,15 +19,15 @@ const VARIABLE_LIMIT: usize = 32;
 const NODE_LIMIT: usize = 128;
 
 /// Whether a pattern passes a limit.
-pub(crate) fn is_large(alloc: Global, pattern: &Option<Pattern>) -> Result<bool, Memory>
+pub(crate) fn is_large(alloc: Global, pattern: &Option<Boxed<Pattern>>) -> Result<bool, Memory>
     ensures { IfOk result (λ is. is ≡ is_large_pattern pattern.now) }
 {
     match pattern {
         None => Ok(false),
         Some(found) => {
             let variables = pattern_names(alloc, pattern)?;
-            let triples = triple_count(found) > TRIPLE_LIMIT;
-            let nodes = node_count(found) >= NODE_LIMIT;
+            let triples = triple_count(found.get()) > TRIPLE_LIMIT;
+            let nodes = node_count(found.get()) >= NODE_LIMIT;
             Ok(triples | (variables.len() > VARIABLE_LIMIT) | nodes)
         }
     }

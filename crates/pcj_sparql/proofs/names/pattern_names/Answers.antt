@@ -9,5 +9,6 @@ use Rattle.pcj_sparql.proofs.names.pattern_names.Goals as goal
 pub returns-in_ok-add_pattern-in-Some : goal.returns-in_ok-add_pattern-in-Some
 returns-in_ok-add_pattern-in-Some c =
     let empty = subst (λ (k : List (List ℕ)). IsSetOf [] k) (sym c.new-set.ensures) no_names in
-    let set = set_whole (variables_of c.in-Some.pattern) c.add_pattern.new.self ((c.in_ok-add_pattern-in-Some.ensures {u = tt}) [] empty) in
-    subst (λ (k : Option Pattern). IsSetOf (variables_in k) c.add_pattern.new.self) (sym c.in-Some.is) set
+    let set = set_whole (variables_of c.get.result.now) c.add_pattern.new.self ((c.in_ok-add_pattern-in-Some.ensures {u = tt}) [] empty) in
+    let same = subst (λ (k : Pattern). IsSetOf (variables_of k) c.add_pattern.new.self) c.get.ensures set in
+    subst (λ (k : Option Pattern). IsSetOf (variables_in k) c.add_pattern.new.self) (sym c.in-Some.is) same
