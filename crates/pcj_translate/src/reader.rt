@@ -40,7 +40,7 @@ pub struct Reader<'t> {
 
 impl<'t> Reader<'t> {
     /// Takes the next token.
-    pub fn next(&mut self) -> Option<Lexeme>
+    fn next(&mut self) -> Option<Lexeme>
         ensures some { IfSome result (λ l. self.old.rest.now ≡ l ∷ self.new.rest.now) }
         ensures none { IfNone result ((self.old.rest.now ≡ []) × (self.new.rest.now ≡ [])) }
         ensures scope { scope_of_reader self.new ≡ scope_of_reader self.old }
@@ -93,7 +93,7 @@ impl<'t> Reader<'t> {
     }
 
     /// Takes a value, or what stands in a predicate's place.
-    pub fn value(&mut self, alloc: Global) -> Result<Slot, Memory>
+    fn value(&mut self, alloc: Global) -> Result<Slot, Memory>
         ensures value { IfOk result (λ slot. value_at (scope_of_reader self.old) self.old.rest.now ≡ (slot, self.new.rest.now)) }
         ensures scope { scope_of_reader self.new ≡ scope_of_reader self.old }
     {
@@ -121,7 +121,7 @@ impl<'t> Reader<'t> {
     }
 
     /// Takes a comma, where it stands at the front, and says whether it does.
-    pub fn comma(&mut self) -> bool
+    fn comma(&mut self) -> bool
         ensures taken { OnTrue result ((c : Lexeme) × (self.old.rest.now ≡ c ∷ self.new.rest.now) × (c.terminal ≡ Comma)) }
         ensures none { OnFalse result ((begins_comma self.old.rest.now ≡ false) × (self.new.rest.now ≡ self.old.rest.now)) }
         ensures scope { scope_of_reader self.new ≡ scope_of_reader self.old }
@@ -158,7 +158,7 @@ impl<'t> Reader<'t> {
     }
 
     /// Takes the objects of a predicate, and adds their triple patterns.
-    pub fn objects(
+    fn objects(
         &mut self,
         alloc: Global,
         subject: &Slot,
@@ -177,7 +177,7 @@ impl<'t> Reader<'t> {
     }
 
     /// Takes a semicolon, where it stands at the front, and says whether it does.
-    pub fn semicolon(&mut self) -> bool
+    fn semicolon(&mut self) -> bool
         ensures taken { OnTrue result ((c : Lexeme) × (self.old.rest.now ≡ c ∷ self.new.rest.now) × (c.terminal ≡ Semicolon)) }
         ensures none { OnFalse result ((begins_semicolon self.old.rest.now ≡ false) × (self.new.rest.now ≡ self.old.rest.now)) }
         ensures scope { scope_of_reader self.new ≡ scope_of_reader self.old }
@@ -237,7 +237,7 @@ impl<'t> Reader<'t> {
     }
 
     /// Takes a subject and what is said of it, and adds its triple patterns.
-    pub fn same(&mut self, alloc: Global, triples: &mut Items<TriplePattern>) -> Result<(), Memory>
+    fn same(&mut self, alloc: Global, triples: &mut Items<TriplePattern>) -> Result<(), Memory>
         ensures ok { OnOk result (AddsSame (scope_of_reader self.old) self.old.rest.now self.new.rest.now triples.old triples.new) }
         ensures fewer { OnOk result (length self.new.rest.now ≤ length (behind_one self.old.rest.now)) }
         ensures scope { scope_of_reader self.new ≡ scope_of_reader self.old }
@@ -259,7 +259,7 @@ impl<'t> Reader<'t> {
     }
 
     /// Takes a comparison.
-    pub fn test(&mut self, alloc: Global) -> Result<Expr, Memory>
+    fn test(&mut self, alloc: Global) -> Result<Expr, Memory>
         ensures ok { IfOk result (ReadsTest (scope_of_reader self.old) self.old.rest.now self.new.rest.now) }
         ensures fewer { OnOk result (length self.new.rest.now ≤ length self.old.rest.now) }
         ensures scope { scope_of_reader self.new ≡ scope_of_reader self.old }
@@ -384,7 +384,7 @@ impl<'t> Reader<'t> {
 
     /// Takes conditions that are joined by `||`.
     #[cycle(conditions)]
-    pub fn expr(&mut self, alloc: Global, levels: u8) -> Result<Expr, Memory>
+    fn expr(&mut self, alloc: Global, levels: u8) -> Result<Expr, Memory>
         ensures ok { IfOk result (ReadsExpr (scope_of_reader self.old) levels self.old.rest.now self.new.rest.now) }
         ensures fewer { OnOk result (length self.new.rest.now ≤ length self.old.rest.now) }
         ensures scope { scope_of_reader self.new ≡ scope_of_reader self.old }
@@ -398,7 +398,7 @@ impl<'t> Reader<'t> {
     }
 
     /// Whether what may be a subject stands at the front.
-    pub fn starts_value(&self) -> bool
+    fn starts_value(&self) -> bool
         ensures { result ≡ begins_value self.now.rest.now }
     {
         match self.rest {
@@ -453,7 +453,7 @@ impl<'t> Reader<'t> {
     }
 
     /// Takes `UNION`, where it stands at the front, and says whether it does.
-    pub fn union(&mut self) -> bool
+    fn union(&mut self) -> bool
         ensures taken { OnTrue result ((c : Lexeme) × (self.old.rest.now ≡ c ∷ self.new.rest.now) × (c.terminal ≡ t.Union)) }
         ensures none { OnFalse result ((begins_union self.old.rest.now ≡ false) × (self.new.rest.now ≡ self.old.rest.now)) }
         ensures scope { scope_of_reader self.new ≡ scope_of_reader self.old }
@@ -480,7 +480,7 @@ impl<'t> Reader<'t> {
 
     /// Takes groups that `UNION` joins.
     #[cycle(groups)]
-    pub fn joint(&mut self, alloc: Global, levels: u8) -> Result<Option<Pattern>, Memory>
+    fn joint(&mut self, alloc: Global, levels: u8) -> Result<Option<Pattern>, Memory>
         ensures ok { IfOk result (ReadsJoint (scope_of_reader self.old) levels self.old.rest.now self.new.rest.now) }
         ensures fewer { OnOk result (length self.new.rest.now ≤ length (behind_one self.old.rest.now)) }
         ensures scope { scope_of_reader self.new ≡ scope_of_reader self.old }
