@@ -1,9 +1,9 @@
 //! The program `pcj_bench`, which measures crates of this repository.
 //!
-//! Its first argument names a measure. It makes what the measure works on, or reads a document or a script on standard input,
-//! works on it again and again, and writes how many bytes a second that took, or, of a table of rows, how long a
-//! call took at each number of rows, or, of loads, how many triples a second were loaded, or, of transactions, how long
-//! a step took at each number of writes. Nothing here is promised: what is proved is that each call meets its
+//! Its first argument names a measure. It makes what the measure works on, or reads a document, a script or a query on
+//! standard input, works on it again and again, and writes how many bytes a second that took, or, of a table of rows, how
+//! long a call took at each number of rows, or, of loads, how many triples a second were loaded, or, of transactions, how
+//! long a step took at each number of writes. Nothing here is promised: what is proved is that each call meets its
 //! conditions, and that the program ends. The scripts in `bench/` run it.
 #![tactic(auto)]
 
@@ -14,6 +14,7 @@ mod join;
 mod loads;
 mod mix;
 mod print;
+mod query;
 mod rate;
 mod read;
 mod row_table;
@@ -27,6 +28,7 @@ use failure::Failure;
 use join::measure_join;
 use loads::measure_loads;
 use print::measure_print;
+use query::measure_query;
 use read::measure_read;
 use row_table::measure_row_table;
 use script::measure_script;
@@ -60,12 +62,13 @@ fn measure(rt: &HostRuntime, name: &str, engine: Engine, size: u32) -> Result<()
         "split_parts" => show(rt, measure_split(rt, alloc)?),
         "read_document" => show(rt, measure_document(rt, alloc, rt.stdin())?),
         "read_script" => show(rt, measure_script(rt, alloc, rt.stdin())?),
+        "read_query" => show(rt, measure_query(rt, alloc, rt.stdin())?),
         "row_table" => show(rt, measure_row_table(rt, alloc, engine, size)?),
         "loads" => show(rt, measure_loads(rt, alloc, engine, size)?),
         "steps" => show_steps(rt, alloc),
         _ => show(
             rt,
-            "usage: pcj_bench print_term|read_term|join_parts|split_parts|read_document|read_script|steps, or pcj_bench row_table|loads vector|pages SIZE",
+            "usage: pcj_bench print_term|read_term|join_parts|split_parts|read_document|read_script|read_query|steps, or pcj_bench row_table|loads vector|pages SIZE",
         ),
     }
 }

@@ -56,6 +56,12 @@ impl Answer {
         }
     }
 
+    /// Adds a field that is a variable, by its name.
+    pub(crate) fn variable(&mut self, name: &[u8]) -> Result<(), Unanswered> {
+        self.push("\t?")?;
+        self.escaped(name)
+    }
+
     fn escaped(&mut self, bytes: &[u8]) -> Result<(), Unanswered> {
         for byte in bytes {
             self.byte(*byte)?;

@@ -1,8 +1,8 @@
 use crate::answer::Answer;
 use crate::unanswered::Unanswered;
 use crate::{
-    act, bytes, document, grammar, items, key, name, range, row, said, script, term, text, token,
-    transcript,
+    act, bytes, document, grammar, items, key, name, query, range, row, said, script, term, text,
+    token, transcript,
 };
 use pcj_term::Bytes;
 use std::alloc::Global;
@@ -72,6 +72,8 @@ fn reading(
         "read_key" => name::read_case(alloc, out, arguments),
         "read_long" => document::read_long_case(alloc, out, arguments),
         "read_many" => document::read_many_case(alloc, out, arguments),
+        "read_padded" => query::padded_case(alloc, out, arguments),
+        "read_query" => query::read_case(alloc, out, arguments),
         "read_term" => term::read_case(alloc, out, arguments),
         _ => Err(Unanswered::NoCase),
     }
@@ -94,6 +96,7 @@ fn making(
         "nt_number" => document::number_case(alloc, out, arguments),
         "prefix_end" => key::prefix_case(alloc, out, arguments),
         "prewrite" => act::prewrite_case(alloc, out, arguments),
+        "query_number" => query::number_case(alloc, out, arguments),
         "roll_back_row" => act::roll_back_case(alloc, out, arguments),
         "roll_forward_row" => act::roll_forward_case(alloc, out, arguments),
         "script" => script::script_case(alloc, out, arguments),

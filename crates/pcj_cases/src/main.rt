@@ -20,6 +20,7 @@ mod grammar;
 mod items;
 mod key;
 mod name;
+mod query;
 mod range;
 mod row;
 mod said;

@@ -100,7 +100,7 @@ fn answer_term(alloc: Global, out: &mut Answer, call: &str, term: &Term) -> Resu
 }
 
 /// Adds the printed form of a term.
-fn show_printed(alloc: Global, out: &mut Answer, term: &Term) -> Result<(), Unanswered> {
+pub(crate) fn show_printed(alloc: Global, out: &mut Answer, term: &Term) -> Result<(), Unanswered> {
     let printed = print_term(alloc, term)?;
     out.bytes(printed.as_slice())
 }

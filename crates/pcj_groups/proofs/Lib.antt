@@ -1,0 +1,4 @@
+pub mod UsesTaken
+pub mod Walked
+pub mod NamesFound
+pub mod FaultsFound

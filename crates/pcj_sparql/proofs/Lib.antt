@@ -1,0 +1,11 @@
+pub mod OneQuery
+pub mod Lowest
+pub mod HeadingRead
+pub mod HeadRead
+pub mod Declarations
+pub mod NameLists
+pub mod UsesRead
+pub mod Shapes
+pub mod Meaning
+pub mod Failing
+pub mod Outcomes

@@ -1,0 +1,12 @@
+pub mod Names
+pub mod Lowest
+pub mod ValuesRead
+pub mod ObjectsRead
+pub mod PredicatesRead
+pub mod BlocksRead
+pub mod TestsRead
+pub mod ConditionsRead
+pub mod GroupsRead
+pub mod Levels
+pub mod SomePattern
+pub mod SetsOfNames

@@ -1,0 +1,13 @@
+pub mod Term
+pub mod Triples
+pub mod Filter
+pub mod Group
+pub mod Variables
+pub mod Names
+pub mod Uses
+pub mod Reading
+pub mod ValueReading
+pub mod Adding
+pub mod Testing
+pub mod Grouping
+pub mod Places
