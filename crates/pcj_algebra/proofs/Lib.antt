@@ -1,0 +1,3 @@
+mod MatchLemmas
+mod NameLemmas
+mod OneMatch

@@ -1,0 +1,3 @@
+pub mod Match
+pub mod Matching
+pub mod Variables

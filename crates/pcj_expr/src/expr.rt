@@ -1,6 +1,7 @@
 ghost use Rattle.std.specs.Prelude.{◌≡◌, Ok, IfOk};
+ghost use Rattle.pcj_expr.specs.Truth.{truth_of};
 
-use crate::operand::{Compare, Operand};
+use crate::{Compare, Mapping, Operand, Truth};
 use pcj_term::{Memory, TryClone};
 use sqlite_items::Boxed;
 use std::alloc::Global;
@@ -50,4 +51,20 @@ fn boxed(alloc: Global, copy: Result<Expr, Memory>) -> Result<Boxed<Expr>, Memor
 {
     let copy = copy?;
     Ok(Boxed::new(alloc, copy)?)
+}
+
+/// What a condition says of a mapping, by the tables of SPARQL 1.1 Query, section 17.2. Takes no memory.
+///
+/// `Truth::Error` comes where a variable is unbound, where `=` and `!=` have two literals that differ and are neither both
+/// integers nor both strings, and where `<` and its kin have anything but two integers or two strings; and from such parts
+/// by the tables.
+pub fn truth(expr: &Expr, mapping: &Mapping) -> Truth
+    ensures { result ≡ truth_of expr.now mapping.now }
+{
+    match expr {
+        Expr::Or(left, right) => truth(left.get(), mapping).or(truth(right.get(), mapping)),
+        Expr::And(left, right) => truth(left.get(), mapping).and(truth(right.get(), mapping)),
+        Expr::Not(inner) => truth(inner.get(), mapping).not(),
+        Expr::Test(compare, left, right) => compare.test(left.value(mapping), right.value(mapping)),
+    }
 }

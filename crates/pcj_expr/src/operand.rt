@@ -1,28 +1,10 @@
+ghost use Rattle.std.specs.Prelude.{◌≡◌};
+ghost use Rattle.std.specs.Option.{option_copied};
+ghost use Rattle.pcj_expr.specs.Truth.{value_of};
+
+use crate::Mapping;
 use pcj_term::{Bytes, Memory, Term, TryClone};
 use std::alloc::Global;
-
-/// How two values are compared (SPARQL 1.1 Query, section 17.3).
-#[derive(Clone, Copy, PartialEq, Eq)]
-pub enum Compare {
-    /// `=`
-    Eq,
-    /// `!=`
-    Ne,
-    /// `<`
-    Lt,
-    /// `>`
-    Gt,
-    /// `<=`
-    Le,
-    /// `>=`
-    Ge,
-}
-
-impl TryClone for Compare {
-    fn try_clone(&self, _alloc: Global) -> Result<Compare, Memory> {
-        Ok(*self)
-    }
-}
 
 /// What is compared.
 #[derive(Drop)]
@@ -38,6 +20,18 @@ impl TryClone for Operand {
         match self {
             Operand::Var(name) => Ok(Operand::Var(name.try_clone(alloc)?)),
             Operand::Value(term) => Ok(Operand::Value(term.try_clone(alloc)?)),
+        }
+    }
+}
+
+impl Operand {
+    /// The term that it is under a mapping, unless it is a variable that is unbound.
+    pub(crate) fn value<'m>(&'m self, mapping: &'m Mapping) -> Option<&'m Term>
+        ensures { option_copied result ≡ value_of mapping.now self.now }
+    {
+        match self {
+            Operand::Var(name) => mapping.get(name),
+            Operand::Value(term) => Some(term),
         }
     }
 }

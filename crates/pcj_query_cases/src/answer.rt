@@ -33,4 +33,21 @@ impl Answer {
         }
         Ok(())
     }
+
+    /// Adds a key after a space: the bytes 0 and 1, which end and escape its parts, as `|` and `^`.
+    pub(crate) fn key(&mut self, key: &[u8]) -> Result<(), Unanswered> {
+        self.text.push(' ')?;
+        for byte in key {
+            self.text.push(key_character(*byte))?;
+        }
+        Ok(())
+    }
+}
+
+fn key_character(byte: u8) -> char {
+    match byte {
+        0 => '|',
+        1 => '^',
+        _ => char::from(byte),
+    }
 }

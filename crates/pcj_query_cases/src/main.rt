@@ -1,13 +1,15 @@
-//! The program `pcj_query_cases`, which puts queries and mappings together, copies them, and writes the copies.
+//! The program `pcj_query_cases`, which puts queries and mappings together, and writes copies of them and what is said of
+//! them.
 //!
-//! It reads cases on standard input, a line each: words in postfix order. It writes each line again with the copy behind
-//! it. `stdin` has the cases, and `stdout` the same lines with what was to be copied. `README.md` has the words.
+//! It reads cases on standard input, a line each: words in postfix order. It writes each line again with the answer behind
+//! it. `stdin` has the cases, and `stdout` the same lines with what was to be answered. `README.md` has the words.
 //!
 //! Nothing is promised of what is written: what is proved is that each call meets its conditions, and that the program
 //! ends.
 #![tactic(auto)]
 
 mod answer;
+mod calls;
 mod parts;
 mod show;
 mod unanswered;

@@ -1,7 +1,7 @@
 use crate::unanswered::Unanswered;
 use pcj_algebra::{Aggregate, Pattern, Query, Shape, Slot, TriplePattern};
 use pcj_expr::{Binding, Compare, Expr, Mapping, Operand};
-use pcj_term::{Bytes, Items, TryClone, read_term};
+use pcj_term::{Bytes, Items, Term, Triple, TryClone, read_term};
 use sqlite_items::Boxed;
 use std::alloc::Global;
 
@@ -67,7 +67,8 @@ impl Parts {
         Ok(())
     }
 
-    fn take_condition(&mut self) -> Result<Expr, Unanswered> {
+    /// The last condition.
+    pub(crate) fn take_condition(&mut self) -> Result<Expr, Unanswered> {
         self.conditions.pop().ok_or(Unanswered::NoCase)
     }
 
@@ -115,6 +116,25 @@ impl Parts {
         Ok(())
     }
 
+    /// The triple of the last three operands, which are terms.
+    pub(crate) fn take_triple(&mut self) -> Result<Triple, Unanswered> {
+        let object = self.take_term()?;
+        let predicate = self.take_term()?;
+        let subject = self.take_term()?;
+        Ok(Triple {
+            subject,
+            predicate,
+            object,
+        })
+    }
+
+    fn take_term(&mut self) -> Result<Term, Unanswered> {
+        match self.take_operand()? {
+            Operand::Value(term) => Ok(term),
+            Operand::Var(_) => Err(Unanswered::NoCase),
+        }
+    }
+
     fn take_slot(&mut self) -> Result<Slot, Unanswered> {
         match self.take_operand()? {
             Operand::Var(name) => Ok(Slot::Var(name)),
@@ -122,7 +142,8 @@ impl Parts {
         }
     }
 
-    fn take_pattern(&mut self) -> Result<Pattern, Unanswered> {
+    /// The last pattern.
+    pub(crate) fn take_pattern(&mut self) -> Result<Pattern, Unanswered> {
         self.patterns.pop().ok_or(Unanswered::NoCase)
     }
 
@@ -198,9 +219,7 @@ impl Parts {
 
     /// Binds the last name but one operand to that operand, which is a term.
     pub(crate) fn bind(&mut self) -> Result<(), Unanswered> {
-        let Operand::Value(term) = self.take_operand()? else {
-            return Err(Unanswered::NoCase);
-        };
+        let term = self.take_term()?;
         let name = self.take_name()?;
         self.bindings.push(Binding { name, term })?;
         Ok(())

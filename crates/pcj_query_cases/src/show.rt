@@ -31,7 +31,8 @@ fn show_shape(out: &mut Answer, shape: &Shape) -> Result<(), Unanswered> {
     }
 }
 
-fn show_names(out: &mut Answer, names: &[Bytes]) -> Result<(), Unanswered> {
+/// Adds variables.
+pub(crate) fn show_names(out: &mut Answer, names: &[Bytes]) -> Result<(), Unanswered> {
     for name in names {
         show_name(out, name)?;
     }

@@ -1,4 +1,5 @@
 use crate::answer::Answer;
+use crate::calls::{answer_match, answer_rows, answer_truth, answer_variables};
 use crate::parts::Parts;
 use crate::show::{show_mapping, show_query, show_truth};
 use crate::unanswered::Unanswered;
@@ -7,7 +8,7 @@ use pcj_expr::{Compare, Mapping, Truth};
 use pcj_term::TryClone;
 use std::alloc::Global;
 
-/// Puts together what the words say, and adds the copy of what is whole.
+/// Puts together what the words say, and adds the copy of what is whole, or what a call answers of it.
 pub(crate) fn answer_words(alloc: Global, out: &mut Answer, words: &str) -> Result<(), Unanswered> {
     let mut parts = Parts::new(alloc);
     for word in words.split(' ') {
@@ -27,6 +28,10 @@ fn answer_word(
         "false" => copy_truth(alloc, out, Truth::False),
         "error" => copy_truth(alloc, out, Truth::Error),
         "mapping" => end_mapping(alloc, parts, out),
+        "truth" => answer_truth(parts, out),
+        "match" => answer_match(alloc, parts, out),
+        "variables" => answer_variables(alloc, parts, out),
+        "rows" => answer_rows(alloc, parts, out),
         "distinct" => end_distinct(alloc, parts, out),
         "count" => end_group(alloc, parts, out, Aggregate::Count),
         "sum" => end_group(alloc, parts, out, Aggregate::Sum),

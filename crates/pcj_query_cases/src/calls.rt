@@ -1,0 +1,99 @@
+use crate::answer::Answer;
+use crate::parts::Parts;
+use crate::show::{show_mapping, show_names, show_truth};
+use crate::unanswered::Unanswered;
+use pcj_algebra::{Pattern, TriplePattern, match_triple, variables};
+use pcj_encode::{KeyRange, Order};
+use pcj_expr::{Expr, Mapping};
+use pcj_patterns::pattern_rows;
+use pcj_term::{Memory, Triple};
+use std::alloc::Global;
+
+/// Adds what the last condition says of the mapping of all bindings.
+pub(crate) fn answer_truth(parts: &mut Parts, out: &mut Answer) -> Result<(), Unanswered> {
+    let condition = parts.take_condition()?;
+    truth_of(parts, out, &condition)
+}
+
+fn truth_of(parts: &mut Parts, out: &mut Answer, condition: &Expr) -> Result<(), Unanswered> {
+    let mapping = parts.mapping();
+    show_truth(out, pcj_expr::truth(condition, &mapping))
+}
+
+/// Adds the mapping by which the last triple pattern matches the triple of the last three terms, if there is one.
+pub(crate) fn answer_match(
+    alloc: Global,
+    parts: &mut Parts,
+    out: &mut Answer,
+) -> Result<(), Unanswered> {
+    let triple = parts.take_triple()?;
+    match_of(alloc, parts, out, &triple)
+}
+
+fn match_of(
+    alloc: Global,
+    parts: &mut Parts,
+    out: &mut Answer,
+    triple: &Triple,
+) -> Result<(), Unanswered> {
+    let pattern = parts.take_pattern()?;
+    show_match(
+        alloc,
+        out,
+        match_triple(alloc, triple_pattern(&pattern)?, triple),
+    )
+}
+
+fn show_match(
+    alloc: Global,
+    out: &mut Answer,
+    found: Result<Option<Mapping>, Memory>,
+) -> Result<(), Unanswered> {
+    match found? {
+        None => out.word("none"),
+        Some(mapping) => show_mapping(alloc, out, &mapping),
+    }
+}
+
+/// Adds the variables of the last pattern.
+pub(crate) fn answer_variables(
+    alloc: Global,
+    parts: &mut Parts,
+    out: &mut Answer,
+) -> Result<(), Unanswered> {
+    let pattern = parts.take_pattern()?;
+    let names = variables(alloc, &pattern)?;
+    show_names(out, names.as_slice())
+}
+
+/// Adds the order and the range that serve the last pattern.
+pub(crate) fn answer_rows(
+    alloc: Global,
+    parts: &mut Parts,
+    out: &mut Answer,
+) -> Result<(), Unanswered> {
+    let pattern = parts.take_pattern()?;
+    show_rows(out, pattern_rows(alloc, triple_pattern(&pattern)?))
+}
+
+fn show_rows(out: &mut Answer, rows: Result<(Order, KeyRange), Memory>) -> Result<(), Unanswered> {
+    let (order, range) = rows?;
+    out.word(order_word(order))?;
+    out.key(range.after.as_slice())?;
+    out.key(range.end.as_slice())
+}
+
+fn order_word(order: Order) -> &'static str {
+    match order {
+        Order::Spo => "spo",
+        Order::Pos => "pos",
+        Order::Osp => "osp",
+    }
+}
+
+fn triple_pattern(pattern: &Pattern) -> Result<&TriplePattern, Unanswered> {
+    match pattern {
+        Pattern::Triple(triple) => Ok(triple),
+        _ => Err(Unanswered::NoCase),
+    }
+}
