@@ -2,7 +2,7 @@
 use Rattle.std.proofs.Common.{◌≡◌, true, List, [], ◌∷◌, refl, ap, sym, ◌∙◌}
 use Rattle.pcj_algebra.specs.declared.triple_pattern.Slot.{Slot}
 use Rattle.pcj_expr.specs.declared.expr.Expr.TheVariants.{Test}
-use Rattle.pcj_expr.specs.declared.operand.Compare.{Compare}
+use Rattle.pcj_expr.specs.declared.compare.Compare.{Compare}
 use Rattle.pcj_grammar.specs.declared.lexeme.Lexeme.{Lexeme}
 use Rattle.pcj_grammar.specs.declared.terminal.Terminal.{Terminal}
 use Rattle.pcj_grammar.specs.declared.terminal.Terminal.TheVariants as t

@@ -4,8 +4,8 @@ use Rattle.pcj_algebra.specs.declared.triple_pattern.Slot.{Slot}
 use Rattle.pcj_algebra.specs.declared.triple_pattern.Slot.TheVariants as slots
 use Rattle.pcj_expr.specs.declared.expr.Expr.{Expr}
 use Rattle.pcj_expr.specs.declared.expr.Expr.TheVariants.{Or, And, Not, Test}
-use Rattle.pcj_expr.specs.declared.operand.Compare.{Compare}
-use Rattle.pcj_expr.specs.declared.operand.Compare.TheVariants.{Eq, Ne, Lt, Gt, Le, Ge}
+use Rattle.pcj_expr.specs.declared.compare.Compare.{Compare}
+use Rattle.pcj_expr.specs.declared.compare.Compare.TheVariants.{Eq, Ne, Lt, Gt, Le, Ge}
 use Rattle.pcj_expr.specs.declared.operand.Operand.{Operand}
 use Rattle.pcj_expr.specs.declared.operand.Operand.TheVariants as operands
 use Rattle.pcj_grammar.specs.declared.lexeme.Lexeme.{Lexeme}

@@ -2,8 +2,8 @@
 use Rattle.std.specs.Prelude.{◌≡◌, ℕ, zero, suc, Bool, true, false, List, [], ◌∷◌}
 use Rattle.pcj_expr.specs.declared.expr.Expr.{Expr}
 use Rattle.pcj_expr.specs.declared.expr.Expr.TheVariants.{Test}
-use Rattle.pcj_expr.specs.declared.operand.Compare.{Compare}
-use Rattle.pcj_expr.specs.declared.operand.Compare.TheVariants.{Eq, Ne, Lt, Gt, Le, Ge}
+use Rattle.pcj_expr.specs.declared.compare.Compare.{Compare}
+use Rattle.pcj_expr.specs.declared.compare.Compare.TheVariants.{Eq, Ne, Lt, Gt, Le, Ge}
 use Rattle.pcj_grammar.specs.declared.lexeme.Lexeme.{Lexeme}
 use Rattle.pcj_grammar.specs.declared.terminal.Terminal.{Terminal}
 use Rattle.pcj_grammar.specs.declared.terminal.Terminal.TheVariants as t

@@ -2,7 +2,7 @@ use Rattle.std.proofs.Common.{◌≡◌, ◌∙◌, sym, subst, ap, List, length
 use Rattle.pcj_algebra.specs.declared.triple_pattern.Slot.{Slot}
 use Rattle.pcj_expr.specs.declared.expr.Expr.{Expr}
 use Rattle.pcj_expr.specs.declared.expr.Expr.TheVariants.{Test}
-use Rattle.pcj_expr.specs.declared.operand.Compare.{Compare}
+use Rattle.pcj_expr.specs.declared.compare.Compare.{Compare}
 use Rattle.pcj_expr.specs.declared.operand.Operand.{Operand}
 use Rattle.pcj_grammar.specs.declared.lexeme.Lexeme.{Lexeme}
 use Rattle.pcj_translate.specs.Term.{Scope}
