@@ -1,0 +1,51 @@
+-- What a client's step leaves of all.
+use Rattle.std.specs.Prelude.{◌≡◌, ◌≤◌, ℕ, suc, List, ◌++◌, Option, Some, None}
+use Rattle.pcj_term.specs.declared.triple.Triple.{Triple}
+use Rattle.pcj_table.specs.Table.{Table, row_at}
+use Rattle.pcj_oracle.specs.declared.block.Block.{Block}
+use Rattle.pcj_mvcc.specs.Reading.{Rows}
+use Rattle.pcj_moves.specs.Actors.{Actor, new_actor}
+use Rattle.pcj_actor.specs.StepLaws.{state_of}
+use Rattle.pcj_fit.specs.Laws as fit
+use Rattle.pcj_fit.specs.Sound.{Sound}
+use Rattle.pcj_fit.specs.Triples.{HasTriples}
+use Rattle.pcj_client.specs.Job.{Job}
+use Rattle.pcj_client.specs.Events.{IsTold, job_calls, triples_after}
+use Rattle.pcj_client.specs.declared.event.JobEvent.{JobEvent}
+use Rattle.pcj_clients.specs.Clients.{actors_of, after_step}
+use Rattle.pcj_clients.specs.declared.busy.Busy.{Busy}
+
+-- A client without a job changes nothing; of one with a job, the job tells, and is over or goes on.
+abbrev pub IsClientStep : Option Job → ℕ → List Busy → Option Block → Table → Option JobEvent → List Busy → Option Block → Table → Type 0
+IsClientStep None client old oracle table told new oracle' table' = (told ≡ None) × (new ≡ old) × (oracle' ≡ oracle) × (table' ≡ table)
+IsClientStep (Some job) client old oracle table told new oracle' table' =
+    (event : JobEvent) × (told ≡ Some event) × (job' : Job) × IsTold job oracle table event job' oracle' table' × (new ≡ after_step old client job' event)
+
+-- the triples after a step of a client
+abbrev pub triples_then : Option Job → Option JobEvent → List Triple → List Triple
+triples_then (Some job) (Some event) known = triples_after event known job.triples
+triples_then _ _ known = known
+
+-- how many calls of the table a step of a client makes at most
+abbrev pub calls_of : Option Job → Option Block → Table → ℕ
+calls_of None oracle table = 0
+calls_of (Some job) oracle table = job_calls job oracle table
+
+-- Whoever else is at work beside the clients: all stays sound.
+abbrev pub KeepsAllSound : List Busy → Option Block → Table → List Busy → Option Block → Table → Type 0
+KeepsAllSound old oracle table new oracle' table' = (others : List Actor) → Sound (state_of oracle table (actors_of old ++ others)) → Sound (state_of oracle' table' (actors_of new ++ others))
+
+-- and the table then has these triples, where it had those before
+abbrev pub ChangesTriples : List Busy → Option Block → Table → Table → List Triple → List Triple → Type 0
+ChangesTriples old oracle table table' before after = (others : List Actor) → Sound (state_of oracle table (actors_of old ++ others)) → HasTriples (row_at table) before → HasTriples (row_at table') after
+
+-- ---- jobs that begin and end
+
+-- A job begins with a number that was drawn.
+abbrev pub BeginsSound : List Busy → Job → List Busy → Type 0
+BeginsSound old job new = (number : ℕ) (rows : Rows) (others : List Actor) → number ≤ job.actor.start → job.actor ≡ new_actor job.actor.start →
+    Sound (fit.state_of number rows (actors_of old ++ others)) → Sound (fit.state_of (suc job.actor.start) rows (actors_of new ++ others))
+
+-- A job may end wherever it is.
+abbrev pub EndsSound : List Busy → List Busy → Type 0
+EndsSound old new = (number : ℕ) (rows : Rows) (others : List Actor) → Sound (fit.state_of number rows (actors_of old ++ others)) → Sound (fit.state_of number rows (actors_of new ++ others))
