@@ -32,7 +32,7 @@ same_filter test other (x ∷ xs) same =
 pub as_many : (test other : Entry → Bool) (table : Table) → ((entry : Entry) → Contains (finmap.entries table) entry → test entry ≡ other entry) → rows_that test table ≡ rows_that other table
 as_many test other table same = ap length (same_filter test other (finmap.entries table) same)
 
-filtered_are_fewer : {A : Type 0} (test : A → Bool) (xs : List A) → length (filter test xs) ≤ length xs
+pub filtered_are_fewer : {A : Type 0} (test : A → Bool) (xs : List A) → length (filter test xs) ≤ length xs
 filtered_are_fewer test [] = omega arith
 filtered_are_fewer test (x ∷ xs) = by (test x) (filtered_are_fewer test xs)
   where
