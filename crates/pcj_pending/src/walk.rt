@@ -22,12 +22,12 @@ pub(crate) fn count_seen<T: RowTable>(
 {
     rows_can_be_counted(table);
     let mut last = after;
-    let mut count: u64 = 0;
+    let mut seen: u64 = 0;
     while let Some(key) = next_seen(table, last.as_slice(), end, at)? {
         last = key;
-        count += 1;
+        seen += 1;
     }
-    Ok(count)
+    Ok(seen)
 }
 
 /// How many rows have a lock, but for that of the empty key.
@@ -39,12 +39,12 @@ pub(crate) fn count_locked<T: RowTable>(alloc: Global, table: &mut T) -> Result<
 {
     rows_can_be_counted(table);
     let mut last = Bytes::new(alloc);
-    let mut count: u64 = 0;
+    let mut locked: u64 = 0;
     while let Some(key) = next_locked(table, last.as_slice())? {
         last = key;
-        count += 1;
+        locked += 1;
     }
-    Ok(count)
+    Ok(locked)
 }
 
 /// A table has fewer rows than a count can say.

@@ -11,15 +11,15 @@ loop-last-init g c =
 pub returns-in_err-key-clause-calls : goal.returns-in_err-key-clause-calls
 returns-in_err-key-clause-calls g c =
     let made = one_call (g.T.RowTable.made c.loop-last.table) (g.T.RowTable.made c.next_locked.new.table) c.next_locked.ensures.calls in
-    let counted = counted_so_far _ [] (g.T.RowTable.rows c.args.table.now) (g.T.RowTable.rows c.loop-last.table) c.loop-last.count c.loop-last.last c.loop-last.invariant.0 in
+    let counted = counted_so_far _ [] (g.T.RowTable.rows c.args.table.now) (g.T.RowTable.rows c.loop-last.table) c.loop-last.locked c.loop-last.last c.loop-last.invariant.0 in
     omega (arith, made, counted, c.loop-last.invariant.2)
 
-pub overflow_add-count : goal.overflow_add-count
-overflow_add-count g c =
+pub overflow_add-locked : goal.overflow_add-locked
+overflow_add-locked g c =
     let key : Some c.in-Some.key ≡ met_key (is_next_lock c.loop-last.last) (g.T.RowTable.rows c.loop-last.table) =
     sym c.in-Some.is ∙ (c.in_ok-key.ensures {u = tt}).key ∙ ap (λ (k : Key). met_key (is_next_lock k) (g.T.RowTable.rows c.loop-last.table)) c.as_slice.ensures in
     let fits = can_be_counted is_next_lock _ lock_walk [] (g.T.RowTable.rows c.args.table.now) (g.T.RowTable.rows c.loop-last.table)
-    c.loop-last.count c.loop-last.last c.in-Some.key key c.loop-last.invariant.0 in
+    c.loop-last.locked c.loop-last.last c.in-Some.key key c.loop-last.invariant.0 in
     omega (arith, fits)
 
 pub loop-last-smaller : goal.loop-last-smaller
@@ -35,7 +35,7 @@ loop-last-preserved g c =
     sym c.in-Some.is ∙ (c.in_ok-key.ensures {u = tt}).key ∙ ap (λ (k : Key). met_key (is_next_lock k) (g.T.RowTable.rows c.loop-last.table)) c.as_slice.ensures in
     let made = one_call (g.T.RowTable.made c.loop-last.table) (g.T.RowTable.made c.next_locked.new.table) c.next_locked.ensures.calls in (
       counts_on is_next_lock _ lock_walk [] (g.T.RowTable.rows c.args.table.now) (g.T.RowTable.rows c.loop-last.table) (g.T.RowTable.rows c.next_locked.new.table)
-          c.loop-last.count c.loop-last.last c.in-Some.key key c.next_locked.ensures.same c.loop-last.invariant.0,
+          c.loop-last.locked c.loop-last.last c.in-Some.key key c.next_locked.ensures.same c.loop-last.invariant.0,
       omega (arith, c.loop-last.invariant.1, c.next_locked.ensures.cause.later),
       omega (arith, made, c.loop-last.invariant.2),
     )
@@ -44,10 +44,10 @@ pub returns-clause-count : goal.returns-clause-count
 returns-clause-count g c =
     let none : None ≡ met_key (is_next_lock c.loop-last.last) (g.T.RowTable.rows c.loop-last.table) =
     sym (search rules) ∙ (c.in_ok-key.ensures {u = tt}).key ∙ ap (λ (k : Key). met_key (is_next_lock k) (g.T.RowTable.rows c.loop-last.table)) c.as_slice.ensures in
-    all_counted is_next_lock [] (g.T.RowTable.rows c.args.table.now) (g.T.RowTable.rows c.loop-last.table) c.loop-last.count c.loop-last.last none c.loop-last.invariant.0
+    all_counted is_next_lock [] (g.T.RowTable.rows c.args.table.now) (g.T.RowTable.rows c.loop-last.table) c.loop-last.locked c.loop-last.last none c.loop-last.invariant.0
 
 pub returns-clause-calls : goal.returns-clause-calls
 returns-clause-calls g c =
     let made = one_call (g.T.RowTable.made c.loop-last.table) (g.T.RowTable.made c.next_locked.new.table) c.next_locked.ensures.calls in
-    let counted = counted_so_far _ [] (g.T.RowTable.rows c.args.table.now) (g.T.RowTable.rows c.loop-last.table) c.loop-last.count c.loop-last.last c.loop-last.invariant.0 in
+    let counted = counted_so_far _ [] (g.T.RowTable.rows c.args.table.now) (g.T.RowTable.rows c.loop-last.table) c.loop-last.locked c.loop-last.last c.loop-last.invariant.0 in
     omega (arith, made, counted, c.loop-last.invariant.2)

@@ -9,15 +9,15 @@ loop-last-init g c = (counts_begin (λ key. is_next_at key c.args.end.now c.args
 pub returns-in_err-key-clause-calls : goal.returns-in_err-key-clause-calls
 returns-in_err-key-clause-calls g c =
     let made = one_call (g.T.RowTable.made c.loop-last.table) (g.T.RowTable.made c.next_seen.new.table) c.next_seen.ensures.calls in
-    let counted = counted_so_far _ c.args.after (g.T.RowTable.rows c.args.table.now) (g.T.RowTable.rows c.loop-last.table) c.loop-last.count c.loop-last.last c.loop-last.invariant.0 in
+    let counted = counted_so_far _ c.args.after (g.T.RowTable.rows c.args.table.now) (g.T.RowTable.rows c.loop-last.table) c.loop-last.seen c.loop-last.last c.loop-last.invariant.0 in
     omega (arith, made, counted, c.loop-last.invariant.2)
 
-pub overflow_add-count : goal.overflow_add-count
-overflow_add-count g c =
+pub overflow_add-seen : goal.overflow_add-seen
+overflow_add-seen g c =
     let key : Some c.in-Some.key ≡ met_key (is_next_at c.loop-last.last c.args.end.now c.args.at) (g.T.RowTable.rows c.loop-last.table) =
     sym c.in-Some.is ∙ (c.in_ok-key.ensures {u = tt}).key ∙ ap (λ (k : Key). met_key (is_next_at k c.args.end.now c.args.at) (g.T.RowTable.rows c.loop-last.table)) c.as_slice.ensures in
     let fits = can_be_counted (λ key. is_next_at key c.args.end.now c.args.at) _ (seen_walk c.args.end.now c.args.at) c.args.after (g.T.RowTable.rows c.args.table.now) (g.T.RowTable.rows c.loop-last.table)
-    c.loop-last.count c.loop-last.last c.in-Some.key key c.loop-last.invariant.0 in
+    c.loop-last.seen c.loop-last.last c.in-Some.key key c.loop-last.invariant.0 in
     omega (arith, fits)
 
 pub loop-last-smaller : goal.loop-last-smaller
@@ -33,7 +33,7 @@ loop-last-preserved g c =
     sym c.in-Some.is ∙ (c.in_ok-key.ensures {u = tt}).key ∙ ap (λ (k : Key). met_key (is_next_at k c.args.end.now c.args.at) (g.T.RowTable.rows c.loop-last.table)) c.as_slice.ensures in
     let made = one_call (g.T.RowTable.made c.loop-last.table) (g.T.RowTable.made c.next_seen.new.table) c.next_seen.ensures.calls in (
       counts_on (λ key. is_next_at key c.args.end.now c.args.at) _ (seen_walk c.args.end.now c.args.at) c.args.after (g.T.RowTable.rows c.args.table.now) (g.T.RowTable.rows c.loop-last.table) (g.T.RowTable.rows c.next_seen.new.table)
-          c.loop-last.count c.loop-last.last c.in-Some.key key c.next_seen.ensures.same c.loop-last.invariant.0,
+          c.loop-last.seen c.loop-last.last c.in-Some.key key c.next_seen.ensures.same c.loop-last.invariant.0,
       omega (arith, c.loop-last.invariant.1, c.next_seen.ensures.cause.later),
       omega (arith, made, c.loop-last.invariant.2),
     )
@@ -42,10 +42,10 @@ pub returns-clause-count : goal.returns-clause-count
 returns-clause-count g c =
     let none : None ≡ met_key (is_next_at c.loop-last.last c.args.end.now c.args.at) (g.T.RowTable.rows c.loop-last.table) =
     sym (search rules) ∙ (c.in_ok-key.ensures {u = tt}).key ∙ ap (λ (k : Key). met_key (is_next_at k c.args.end.now c.args.at) (g.T.RowTable.rows c.loop-last.table)) c.as_slice.ensures in
-    all_counted (λ key. is_next_at key c.args.end.now c.args.at) c.args.after (g.T.RowTable.rows c.args.table.now) (g.T.RowTable.rows c.loop-last.table) c.loop-last.count c.loop-last.last none c.loop-last.invariant.0
+    all_counted (λ key. is_next_at key c.args.end.now c.args.at) c.args.after (g.T.RowTable.rows c.args.table.now) (g.T.RowTable.rows c.loop-last.table) c.loop-last.seen c.loop-last.last none c.loop-last.invariant.0
 
 pub returns-clause-calls : goal.returns-clause-calls
 returns-clause-calls g c =
     let made = one_call (g.T.RowTable.made c.loop-last.table) (g.T.RowTable.made c.next_seen.new.table) c.next_seen.ensures.calls in
-    let counted = counted_so_far _ c.args.after (g.T.RowTable.rows c.args.table.now) (g.T.RowTable.rows c.loop-last.table) c.loop-last.count c.loop-last.last c.loop-last.invariant.0 in
+    let counted = counted_so_far _ c.args.after (g.T.RowTable.rows c.args.table.now) (g.T.RowTable.rows c.loop-last.table) c.loop-last.seen c.loop-last.last c.loop-last.invariant.0 in
     omega (arith, made, counted, c.loop-last.invariant.2)
