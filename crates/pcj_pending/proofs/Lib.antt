@@ -1,0 +1,5 @@
+pub mod WalkLemmas
+pub mod FitLemmas
+pub mod QuietLemmas
+pub mod CountLemmas
+pub mod MoveLemmas

@@ -1,0 +1,14 @@
+//! What is pending in a table: the rows that have a lock, and the tasks that wait for a worker.
+//!
+//! In Percolator's words (OSDI 2010, sections 2.2 and 2.4), a lock is that of a transaction which isn't ended, and a task is a
+//! notification.
+#![tactic(auto)]
+
+mod counts;
+mod laws;
+mod tally;
+mod walk;
+
+pub use counts::{count_locks, count_notifications, pending};
+pub use laws::{moves_add_one_at_most, quiet_tables_have_nothing_pending};
+pub use tally::Pending;
