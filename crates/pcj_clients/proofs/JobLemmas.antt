@@ -10,7 +10,7 @@ use Rattle.pcj_clients.specs.declared.busy.Busy.{Busy}
 use Rattle.pcj_clients.proofs.PlaceLemmas.{busy_there}
 
 -- which job is the client's, as `if` has it
-abbrev choice : Busy → List Busy → ℕ → Bool → Option Job
+abbrev pub choice : Busy → List Busy → ℕ → Bool → Option Job
 choice busy clients client b = if b then Some busy.job else job_of clients client
 
 abbrev kept_job : Busy → List Busy → ℕ → Bool → List Busy

@@ -1,3 +1,4 @@
 pub mod JobLemmas
 pub mod PlaceLemmas
 pub mod SoundLemmas
+pub mod StepsLemmas

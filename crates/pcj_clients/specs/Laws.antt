@@ -10,7 +10,7 @@ use Rattle.pcj_fit.specs.Laws as fit
 use Rattle.pcj_fit.specs.Sound.{Sound}
 use Rattle.pcj_fit.specs.Triples.{HasTriples}
 use Rattle.pcj_client.specs.Job.{Job}
-use Rattle.pcj_client.specs.Events.{IsTold, job_calls, triples_after}
+use Rattle.pcj_client.specs.Events.{CommitsOnce, IsTold, job_calls, triples_after}
 use Rattle.pcj_client.specs.declared.event.JobEvent.{JobEvent}
 use Rattle.pcj_clients.specs.Clients.{actors_of, after_step}
 use Rattle.pcj_clients.specs.declared.busy.Busy.{Busy}
@@ -19,7 +19,7 @@ use Rattle.pcj_clients.specs.declared.busy.Busy.{Busy}
 abbrev pub IsClientStep : Option Job → ℕ → List Busy → Option Block → Table → Option JobEvent → List Busy → Option Block → Table → Type 0
 IsClientStep None client old oracle table told new oracle' table' = (told ≡ None) × (new ≡ old) × (oracle' ≡ oracle) × (table' ≡ table)
 IsClientStep (Some job) client old oracle table told new oracle' table' =
-    (event : JobEvent) × (told ≡ Some event) × (job' : Job) × IsTold job oracle table event job' oracle' table' × (new ≡ after_step old client job' event)
+    (event : JobEvent) × (told ≡ Some event) × (job' : Job) × IsTold job oracle table event job' oracle' table' × CommitsOnce job event job' × (job'.triples ≡ job.triples) × (new ≡ after_step old client job' event)
 
 -- the triples after a step of a client
 abbrev pub triples_then : Option Job → Option JobEvent → List Triple → List Triple

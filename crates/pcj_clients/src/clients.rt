@@ -1,4 +1,4 @@
-ghost use Rattle.std.specs.Prelude.{◌≡◌, ◌++◌, ◌∷◌, [], List, Some, None, is_some, IfOk, OnOk, OnErr, IsErrOf, ◌^◌, IfSome, IfNone};
+ghost use Rattle.std.specs.Prelude.{◌≡◌, ◌++◌, ◌∷◌, [], List, Some, None, is_some, IfOk, OnOk, OnErr, IsErrOf, ◌^◌, ◌*◌, ◌≤◌, IfSome, IfNone};
 ghost use Rattle.pcj_term.specs.declared.triple.Triple.{Triple};
 ghost use Rattle.pcj_oracle.specs.Clock.{IsClock, next_number};
 ghost use Rattle.pcj_oracle.specs.Draw.{Keeps};
@@ -6,9 +6,13 @@ ghost use Rattle.pcj_txn.specs.declared.error.TxnError.TheVariants.{Spent};
 ghost use Rattle.pcj_txn.specs.Errors.{HasTxnCause};
 ghost use Rattle.pcj_actor.specs.Progress.{MakesUpTo};
 ghost use Rattle.pcj_clients.specs.Clients.{IsPlaceOf, is_end, job_of, without_job};
+ghost use Rattle.pcj_io.specs.Faults.{Rose};
+ghost use Rattle.pcj_clients.specs.declared.stepped.StepsEnd.TheVariants.{Fault};
+ghost use Rattle.pcj_clients.specs.Steps.{AreSteps, AreStepsOf, Told, known_after, no_steps, stepped_from};
 ghost use Rattle.pcj_clients.specs.Laws.{BeginsSound, ChangesTriples, EndsSound, IsClientStep, KeepsAllSound, calls_of, triples_then};
 
 use crate::busy::Busy;
+use crate::stepped::Stepped;
 use pcj_client::{JobEvent, LoadJob};
 use pcj_oracle::Oracle;
 use pcj_table::RowTable;
@@ -108,6 +112,41 @@ impl Clients {
             self.busy.remove(place);
         }
         Ok(Some(told))
+    }
+
+    /// Makes steps of a client's job, as many as are asked for, or up to the one that ends the job or fails. After `Memory`
+    /// the steps before it stand.
+    pub fn steps<T: RowTable>(
+        &mut self,
+        client: u8,
+        most: u64,
+        table: &mut T,
+        oracle: &mut Oracle,
+    ) -> Result<Stepped, Memory>
+        requires { IsClock oracle.old (T.rows table.old) }
+
+        // What each step told, what they came to, and whoever else is at work: all stays sound.
+        ensures steps { IfOk result (λ stepped. (told : List Told) × (stepped ≡ stepped_from no_steps told) × AreStepsOf client most self.old oracle.old (T.rows table.old) told self.new oracle.new (T.rows table.new) × ((known : List Triple) → ChangesTriples self.old oracle.old (T.rows table.old) (T.rows table.new) known (known_after (job_of self.old client) told known))) }
+        ensures sound { KeepsAllSound self.old oracle.old (T.rows table.old) self.new oracle.new (T.rows table.new) }
+        ensures clock { IsClock oracle.new (T.rows table.new) }
+
+        // What want of memory leaves.
+        ensures memory { OnErr result ((told : List Told) × AreSteps told client self.old oracle.old (T.rows table.old) self.new oracle.new (T.rows table.new) × ((known : List Triple) → ChangesTriples self.old oracle.old (T.rows table.old) (T.rows table.new) known (known_after (job_of self.old client) told known))) }
+
+        // When a fault is told.
+        ensures later { T.failures table.old ≤ T.failures table.new }
+        ensures fault { IfOk result (λ stepped. stepped.end ≡ Fault → Rose (T.failures table.old) (T.failures table.new)) }
+
+        // The calls of the table: one a step, and one more for a clock that is read.
+        ensures calls { MakesUpTo (2 * most) (T.made table.old) (T.made table.new) }
+    {
+        let mut stepped = Stepped::none();
+        let mut goes_on = true;
+        while goes_on && stepped.count < most {
+            let told = self.step(client, table, oracle);
+            goes_on = stepped.take_in(told)?;
+        }
+        Ok(stepped)
     }
 
     /// Ends all jobs where they stand.

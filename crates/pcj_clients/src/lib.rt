@@ -3,6 +3,8 @@
 
 mod busy;
 mod clients;
+mod stepped;
 
 pub use busy::Busy;
 pub use clients::Clients;
+pub use stepped::{Stepped, StepsEnd};

@@ -35,7 +35,7 @@ returns-then-is_last-clause-told g c =
     let read = subst (λ (cs : List Busy). c.index_mut.result.now ≡ get_or cs c.in-Some.place c.index_mut.result.now) c.self.view_is c.index_mut.ensures.value in
     let after = c.remove.ensures.items ∙ is_over_is c.self.inside.busy.items c.args.client c.in-Some.place c.index_mut.result.now c.step.new.self c.in_ok-told.told there (sym c.is_last.ensures ∙ c.if-is_last.true) ∙ ap (λ (cs : List Busy). after_step cs c.args.client c.step.new.self c.in_ok-told.told) c.self.view_is in
     subst (λ job. IsClientStep job c.args.client c.args.self.now c.args.oracle.now (g.T.RowTable.rows c.args.table.now) (Some c.in_ok-told.told) c.remove.new.self.items c.step.new.oracle (g.T.RowTable.rows c.step.new.table))
-    (sym (job_read c.args.self.now c.args.client c.in-Some.place c.index_mut.result.now at read)) (c.in_ok-told.told, refl, c.step.new.self, (c.in_ok-told.ensures {u = tt}).told, after)
+    (sym (job_read c.args.self.now c.args.client c.in-Some.place c.index_mut.result.now at read)) (c.in_ok-told.told, refl, c.step.new.self, (c.in_ok-told.ensures {u = tt}).told, (c.in_ok-told.ensures {u = tt}).commit, c.step.ensures.content, after)
 
 pub returns-then-is_last-clause-sound : goal.returns-then-is_last-clause-sound
 returns-then-is_last-clause-sound g c =
@@ -74,7 +74,7 @@ returns-else-is_last-clause-told g c =
     let read = subst (λ (cs : List Busy). c.index_mut.result.now ≡ get_or cs c.in-Some.place c.index_mut.result.now) c.self.view_is c.index_mut.ensures.value in
     let after = goes_on_is c.self.inside.busy.items c.args.client c.in-Some.place c.index_mut.result.now c.step.new.self c.in_ok-told.told there c.index_mut.ensures.value (sym c.is_last.ensures ∙ c.if-is_last.false) ∙ ap (λ (cs : List Busy). after_step cs c.args.client c.step.new.self c.in_ok-told.told) c.self.view_is in
     subst (λ job. IsClientStep job c.args.client c.args.self.now c.args.oracle.now (g.T.RowTable.rows c.args.table.now) (Some c.in_ok-told.told) (Rattle.std.proofs.Common.slice_set c.self.inside.busy.items c.in-Some.place (record { client = c.index_mut.result.now.client; job = c.step.new.self })) c.step.new.oracle (g.T.RowTable.rows c.step.new.table))
-    (sym (job_read c.args.self.now c.args.client c.in-Some.place c.index_mut.result.now at read)) (c.in_ok-told.told, refl, c.step.new.self, (c.in_ok-told.ensures {u = tt}).told, after)
+    (sym (job_read c.args.self.now c.args.client c.in-Some.place c.index_mut.result.now at read)) (c.in_ok-told.told, refl, c.step.new.self, (c.in_ok-told.ensures {u = tt}).told, (c.in_ok-told.ensures {u = tt}).commit, c.step.ensures.content, after)
 
 pub returns-else-is_last-clause-sound : goal.returns-else-is_last-clause-sound
 returns-else-is_last-clause-sound g c =

@@ -1,0 +1,253 @@
+-- The steps of one command, one after another.
+use Rattle.std.proofs.Common.{◌≡◌, ◌≤◌, ◌<◌, ◌^◌, ◌+◌, ◌*◌, ℕ, zero, suc, Bool, true, false, not, is_none, is_some, nat_lt, ◌==◌, ◌&&◌, List, [], ◌∷◌, ◌++◌, length, Option, Some, None, Result, Ok, Err, IfOk, OnErr, IsErrOf, refl, ap, sym, subst, ◌∙◌, arith, if◌then◌else◌}
+use Rattle.pcj_term.specs.declared.triple.Triple.{Triple}
+use Rattle.pcj_io.specs.Faults.{Rose}
+use Rattle.pcj_table.specs.Table.{Table, row_at}
+use Rattle.pcj_table.specs.Calls.{counted}
+use Rattle.pcj_oracle.specs.Clock.{next_number, stored_number}
+use Rattle.pcj_oracle.specs.Calls.{after_calls, calls_due}
+use Rattle.pcj_oracle.specs.Draw.{Keeps}
+use Rattle.pcj_oracle.specs.declared.block.Block.{Block}
+use Rattle.pcj_txn.specs.declared.error.TxnError.TheVariants as txn_error
+use Rattle.pcj_txn.specs.Errors.{step_calls}
+use Rattle.pcj_txn.specs.Progress.{Progress as TxnProgress, Due, Prewrite, Draw, CommitPrimary, CommitNone, CommitSecondary, End, due}
+use Rattle.pcj_actor.specs.Progress.{MakesUpTo}
+use Rattle.pcj_fit.specs.Triples.{HasTriples}
+use Rattle.pcj_client.specs.Job.{Job}
+use Rattle.pcj_client.specs.Events.{job_calls, writing_calls}
+use Rattle.pcj_client.specs.declared.event.JobEvent.{JobEvent}
+use Rattle.pcj_client.specs.declared.event.JobEvent.TheVariants as event
+use Rattle.pcj_clients.specs.Clients.{is_end, job_of, with_job, without_job}
+use Rattle.pcj_clients.specs.Laws.{ChangesTriples, IsClientStep, KeepsAllSound, calls_of, triples_then}
+use Rattle.pcj_clients.specs.Steps.{AreSteps, GoOnUpTo, IsStepOf, Told, all_go_on, goes_on, known_after, no_steps, stepped_from, with_told}
+use Rattle.pcj_clients.specs.declared.busy.Busy.{Busy}
+use Rattle.pcj_clients.specs.declared.stepped.Stepped.{Stepped}
+use Rattle.pcj_clients.specs.declared.stepped.StepsEnd.TheVariants as end
+use Rattle.pcj_clients.proofs.JobLemmas.{choice}
+
+-- ---- one step
+
+-- what a step's clauses say of it, whatever it answers
+pub is_step_of : (told : Told) (client : ℕ) (old new : List Busy) (oracle oracle' : Option Block) (table table' : Table) → IfOk told (λ event. IsClientStep (job_of old client) client old oracle table event new oracle' table') →
+    OnErr told (new ≡ old) → OnErr told (Keeps oracle table oracle' table') → (IsErrOf told txn_error.Spent → next_number oracle table ≡ 2 ^ 48) → IsStepOf told client old oracle table new oracle' table'
+is_step_of (Ok event) client old new oracle oracle' table table' tells same keeps spent = tells
+is_step_of (Err error) client old new oracle oracle' table table' tells same keeps spent = (same, keeps, λ is. spent (ap (λ e. Err e) is))
+
+-- ---- the job's triples
+
+abbrev pub triples_of : Option Job → Option (List Triple)
+triples_of None = None
+triples_of (Some job) = Some job.triples
+
+same_then : (a b : Option Job) (event : Option JobEvent) (known : List Triple) → triples_of a ≡ triples_of b → triples_then a event known ≡ triples_then b event known
+same_then None None event known same = refl
+same_then None (Some b) event known same = absurd cc
+same_then (Some a) None event known same = absurd cc
+same_then (Some a) (Some b) None known same = refl
+same_then (Some a) (Some b) (Some event) known same = let is : a.triples ≡ b.triples = cc in ap (λ triples. Rattle.pcj_client.specs.Events.triples_after event known triples) is
+
+job_with : (clients : List Busy) (client : ℕ) (job job' : Job) → job_of clients client ≡ Some job → job_of (with_job clients client job') client ≡ Some job'
+job_with [] client job job' some = absurd cc
+job_with (busy ∷ clients) client job job' some = by (busy.client == client) refl (job_with clients client job job')
+  where
+    by : (b : Bool) → (busy.client == client) ≡ b → (job_of clients client ≡ Some job → job_of (with_job clients client job') client ≡ Some job') → job_of (with_job (busy ∷ clients) client job') client ≡ Some job'
+    by true e rest = ap (λ x. job_of (if x then (record { client = busy.client; job = job' }) ∷ clients else busy ∷ with_job clients client job') client) e ∙ ap (λ x. if x then Some job' else job_of clients client) e
+    by false e rest = ap (λ x. job_of (if x then (record { client = busy.client; job = job' }) ∷ clients else busy ∷ with_job clients client job') client) e
+        ∙ ap (choice busy (with_job clients client job') client) e ∙ rest (ap (choice busy clients client) (sym e) ∙ some)
+
+-- a job that goes on has its triples still
+keeps_triples : (told : Told) (client : ℕ) (old new : List Busy) (oracle oracle' : Option Block) (table table' : Table) → IsStepOf told client old oracle table new oracle' table' → goes_on told ≡ true → triples_of (job_of new client) ≡ triples_of (job_of old client)
+keeps_triples (Err error) client old new oracle oracle' table table' step goes = absurd cc
+keeps_triples (Ok None) client old new oracle oracle' table table' step goes = absurd cc
+keeps_triples (Ok (Some event)) client old new oracle oracle' table table' step goes = by (job_of old client) refl step
+  where
+    not_true : (b : Bool) → not b ≡ true → b ≡ false
+    not_true true e = absurd cc
+    not_true false e = refl
+
+    by : (found : Option Job) → job_of old client ≡ found → IsClientStep found client old oracle table (Some event) new oracle' table' → triples_of (job_of new client) ≡ triples_of (job_of old client)
+    by None e step = absurd (let clash = step.0 in cc)
+    by (Some job) e step = let (told, is, job', tells, commits, content, after) = step in
+        let same : Some event ≡ Some told = is in
+        let going : is_end told ≡ false = subst (λ x. is_end x ≡ false) (let s : event ≡ told = cc in s) (not_true (is_end event) goes) in
+        let now : new ≡ with_job old client job' = after ∙ ap (λ b. if b then without_job old client else with_job old client job') going in
+        ap (λ cs. triples_of (job_of cs client)) now ∙ ap triples_of (job_with old client job job' e) ∙ ap Some content ∙ sym (ap triples_of e)
+
+-- ---- one more at the end
+
+steps_then : (told : List Told) (more : Told) (client : ℕ) (old mid new : List Busy) (oracle between oracle' : Option Block) (table rows table' : Table) → AreSteps told client old oracle table mid between rows →
+    IsStepOf more client mid between rows new oracle' table' → AreSteps (told ++ more ∷ []) client old oracle table new oracle' table'
+steps_then [] more client old mid new oracle between oracle' table rows table' steps step = let (clients, numbers, same) = steps in
+    (new, oracle', table', subst (λ cs. IsStepOf more client cs oracle table new oracle' table') clients (subst (λ o. IsStepOf more client mid o table new oracle' table') numbers (subst (λ t. IsStepOf more client mid between t new oracle' table') same step)), (refl, refl, refl))
+steps_then (first ∷ told) more client old mid new oracle between oracle' table rows table' steps step = let (clients, o, t, one, rest) = steps in
+    (clients, o, t, one, steps_then told more client clients mid new o between oracle' t rows table' rest step)
+
+from_then : (stepped : Stepped) (told : List Told) (more : Told) → stepped_from stepped (told ++ more ∷ []) ≡ with_told (stepped_from stepped told) more
+from_then stepped [] more = refl
+from_then stepped (first ∷ told) more = from_then (with_told stepped first) told more
+
+abbrev known_then : Option Job → Told → List Triple → List Triple
+known_then job (Ok event) known = triples_then job event known
+known_then job (Err error) known = known
+
+after_then : (job : Option Job) (told : List Told) (more : Told) (known : List Triple) → known_after job (told ++ more ∷ []) known ≡ known_then job more (known_after job told known)
+after_then job [] (Ok event) known = refl
+after_then job [] (Err error) known = refl
+after_then job (Ok event ∷ told) more known = after_then job told more (triples_then job event known)
+after_then job (Err error ∷ told) more known = after_then job told more known
+
+all_then : (told : List Told) (more : Told) → all_go_on told ≡ true → goes_on more ≡ true → all_go_on (told ++ more ∷ []) ≡ true
+all_then [] more all goes = ap (λ b. b && true) goes
+all_then (first ∷ told) more all goes = by (goes_on first) refl (all_then told more)
+  where
+    by : (b : Bool) → goes_on first ≡ b → (all_go_on told ≡ true → goes_on more ≡ true → all_go_on (told ++ more ∷ []) ≡ true) → all_go_on ((first ∷ told) ++ more ∷ []) ≡ true
+    by true e rest = ap (λ b. b && all_go_on (told ++ more ∷ [])) e ∙ rest (ap (λ b. b && all_go_on told) (sym e) ∙ all) goes
+    by false e rest = absurd (let clash : false ≡ true = ap (λ b. b && all_go_on told) (sym e) ∙ all in cc)
+
+length_then : (told : List Told) (more : Told) → length (told ++ more ∷ []) ≡ suc (length told)
+length_then [] more = refl
+length_then (first ∷ told) more = ap suc (length_then told more)
+
+counts : (stepped : Stepped) (told : Told) → goes_on told ≡ true → (with_told stepped told).count ≡ suc stepped.count
+counts stepped (Err error) goes = absurd cc
+counts stepped (Ok None) goes = absurd cc
+counts stepped (Ok (Some event.Worked)) goes = refl
+counts stepped (Ok (Some (event.Committed commit))) goes = refl
+counts stepped (Ok (Some event.Done)) goes = absurd cc
+counts stepped (Ok (Some event.Aborted)) goes = absurd cc
+counts stepped (Ok (Some event.Taken)) goes = absurd cc
+
+stays_all_made : (stepped : Stepped) (told : Told) → stepped.end ≡ end.AllMade → goes_on told ≡ true → (with_told stepped told).end ≡ end.AllMade
+stays_all_made stepped (Err error) all goes = absurd cc
+stays_all_made stepped (Ok None) all goes = absurd cc
+stays_all_made stepped (Ok (Some event.Worked)) all goes = all
+stays_all_made stepped (Ok (Some (event.Committed commit))) all goes = all
+stays_all_made stepped (Ok (Some event.Done)) all goes = absurd cc
+stays_all_made stepped (Ok (Some event.Aborted)) all goes = absurd cc
+stays_all_made stepped (Ok (Some event.Taken)) all goes = absurd cc
+
+-- ---- calls of the table
+
+one_or_none : (b : Bool) → (if b then 1 else 0) ≤ 1
+one_or_none true = omega arith
+one_or_none false = omega arith
+
+-- a draw makes two at most, of which one reads the clock for an oracle that is new
+few_due : (oracle : Option Block) (table : Table) → calls_due oracle table ≤ 2
+few_due oracle table = let a = one_or_none (is_none oracle) in let b = one_or_none (next_number oracle table == stored_number table && nat_lt (next_number oracle table) (2 ^ 48)) in omega arith
+
+few_steps : (due : Due) (oracle : Option Block) (table : Table) → step_calls due oracle table ≤ 2
+few_steps (Prewrite write) oracle table = omega arith
+few_steps Draw oracle table = few_due oracle table
+few_steps (CommitPrimary write commit) oracle table = omega arith
+few_steps (CommitNone commit) oracle table = omega arith
+few_steps (CommitSecondary write commit) oracle table = omega arith
+few_steps End oracle table = omega arith
+
+few_writing : (writing : Option TxnProgress) (oracle : Option Block) (table : Table) → writing_calls writing oracle table ≤ 2
+few_writing None oracle table = omega arith
+few_writing (Some progress) oracle table = few_steps (due progress) oracle table
+
+few_calls : (job : Option Job) (oracle : Option Block) (table : Table) → calls_of job oracle table ≤ 2
+few_calls None oracle table = omega arith
+few_calls (Some job) oracle table = by (is_some job.actor.recovery) refl
+  where
+    by : (b : Bool) → is_some job.actor.recovery ≡ b → job_calls job oracle table ≤ 2
+    by true e = subst (λ b. (if b then 1 else writing_calls job.writing oracle table) ≤ 2) (sym e) (omega arith)
+    by false e = subst (λ b. (if b then 1 else writing_calls job.writing oracle table) ≤ 2) (sym e) (few_writing job.writing oracle table)
+
+calls_then : (more calls before : ℕ) → after_calls (more + calls) before ≡ after_calls more (after_calls calls before)
+calls_then zero calls before = let same : 0 + calls ≡ calls = omega arith in ap (λ n. after_calls n before) same
+calls_then (suc more) calls before = let same : suc more + calls ≡ suc (more + calls) = omega arith in ap (λ n. after_calls n before) same ∙ ap counted (calls_then more calls before)
+
+makes_then : (len most len' before between now : ℕ) → len' ≡ suc len → most ≤ 2 → MakesUpTo (2 * len) before between → MakesUpTo most between now → MakesUpTo (2 * len') before now
+makes_then len most len' before between now is few made more = record {
+  calls = more.calls + made.calls;
+  made = more.made ∙ ap (λ n. after_calls more.calls n) made.made ∙ sym (calls_then more.calls made.calls before);
+  within = let a = made.within in let b = more.within in omega arith;
+}
+
+pub up_to : (len most before now : ℕ) → len ≤ most → MakesUpTo (2 * len) before now → MakesUpTo (2 * most) before now
+up_to len most before now less makes = record { calls = makes.calls; made = makes.made; within = let a = makes.within in omega arith }
+
+-- ---- the steps so far
+
+pub record SoFar (client most : ℕ) (old : List Busy) (oracle : Option Block) (table : Table) (made : ℕ) (going : Bool) (stepped : Stepped) (new : List Busy) (oracle' : Option Block) (table' : Table) (made' : ℕ) : Type 0 where
+  pub told : List Told
+  pub steps : AreSteps told client old oracle table new oracle' table'
+  pub is : stepped ≡ stepped_from no_steps told
+  pub go_on : GoOnUpTo going told
+  pub within : length told ≤ most
+  pub counted : going ≡ true → stepped.count ≡ length told
+  pub end : going ≡ true → stepped.end ≡ end.AllMade
+  pub same : going ≡ true → triples_of (job_of new client) ≡ triples_of (job_of old client)
+  pub sound : KeepsAllSound old oracle table new oracle' table'
+  pub triples : (known : List Triple) → ChangesTriples old oracle table table' known (known_after (job_of old client) told known)
+  pub calls : MakesUpTo (2 * length told) made made'
+
+pub so_far_none : (client most : ℕ) (old : List Busy) (oracle : Option Block) (table : Table) (made : ℕ) → SoFar client most old oracle table made true no_steps old oracle table made
+so_far_none client most old oracle table made = record {
+  told = [];
+  steps = (refl, refl, refl);
+  is = refl;
+  go_on = refl;
+  within = omega arith;
+  counted = λ t. refl;
+  end = λ t. refl;
+  same = λ t. refl;
+  sound = λ others sound. sound;
+  triples = λ known others sound has. has;
+  calls = record { calls = 0; made = refl; within = omega arith };
+}
+
+-- what a step leaves of the triples, whatever it answers
+abbrev pub LeavesOf : Told → ℕ → List Busy → Option Block → Table → Table → Type 0
+LeavesOf told client old oracle table table' = (known : List Triple) → IfOk told (λ event. ChangesTriples old oracle table table' known (triples_then (job_of old client) event known))
+
+leaves : (told : Told) (client : ℕ) (old mid new : List Busy) (between oracle' : Option Block) (rows table' : Table) (known : List Triple) → IsStepOf told client mid between rows new oracle' table' → LeavesOf told client mid between rows table' →
+    triples_of (job_of mid client) ≡ triples_of (job_of old client) → ChangesTriples mid between rows table' known (known_then (job_of old client) told known)
+leaves (Ok event) client old mid new between oracle' rows table' known step left same others sound has =
+    subst (λ triples. HasTriples (row_at table') triples) (same_then (job_of mid client) (job_of old client) event known same) (left known others sound has)
+leaves (Err error) client old mid new between oracle' rows table' known step left same others sound has =
+    subst (λ t. HasTriples (row_at t) known) (sym ((step.1).same)) has
+
+pub one_more : (told : Told) (client most : ℕ) (old mid new : List Busy) (oracle between oracle' : Option Block) (table rows table' : Table) (made middle made' : ℕ) (stepped stepped' : Stepped) → SoFar client most old oracle table made true stepped mid between rows middle → stepped.count < most →
+    IsStepOf told client mid between rows new oracle' table' → KeepsAllSound mid between rows new oracle' table' → LeavesOf told client mid between rows table' → stepped' ≡ with_told stepped told →
+    MakesUpTo (calls_of (job_of mid client) between rows) middle made' → SoFar client most old oracle table made (goes_on told) stepped' new oracle' table' made'
+one_more told client most old mid new oracle between oracle' table rows table' made middle made' stepped stepped' far less step keeps left is calls = record {
+  told = far.told ++ told ∷ [];
+  steps = steps_then far.told told client old mid new oracle between oracle' table rows table' far.steps step;
+  is = is ∙ ap (λ s. with_told s told) far.is ∙ sym (from_then no_steps far.told told);
+  go_on = goes (goes_on told) refl;
+  within = let len = length_then far.told told in let count = far.counted refl in omega arith;
+  counted = λ t. ap (λ (s : Stepped). s.count) is ∙ counts stepped told t ∙ ap suc (far.counted refl) ∙ sym (length_then far.told told);
+  end = λ t. ap (λ (s : Stepped). s.end) is ∙ stays_all_made stepped told (far.end refl) t;
+  same = λ t. keeps_triples told client mid new between oracle' rows table' step t ∙ far.same refl;
+  sound = λ others sound. keeps others (far.sound others sound);
+  triples = λ known others sound has. subst (λ triples. HasTriples (row_at table') triples) (sym (after_then (job_of old client) far.told told known))
+      (leaves told client old mid new between oracle' rows table' (known_after (job_of old client) far.told known) step left (far.same refl) others (far.sound others sound) (far.triples known others sound has));
+  calls = makes_then (length far.told) (calls_of (job_of mid client) between rows) _ made middle made' (length_then far.told told) (few_calls (job_of mid client) between rows) far.calls calls;
+}
+  where
+    goes : (b : Bool) → goes_on told ≡ b → GoOnUpTo (goes_on told) (far.told ++ told ∷ [])
+    goes true e = subst (λ b. GoOnUpTo b (far.told ++ told ∷ [])) (sym e) (all_then far.told told far.go_on e)
+    goes false e = subst (λ b. GoOnUpTo b (far.told ++ told ∷ [])) (sym e) (far.told, told, refl, far.go_on, e)
+
+-- ---- faults
+
+-- a fault is told where a step failed
+pub fault_rose : (stepped : Stepped) (told : Told) (before between now : ℕ) → stepped.end ≡ end.AllMade → before ≤ between → (IsErrOf told txn_error.Failed → Rose between now) → (with_told stepped told).end ≡ end.Fault → Rose before now
+fault_rose stepped (Ok None) before between now all later rose is = absurd cc
+fault_rose stepped (Ok (Some event.Worked)) before between now all later rose is = absurd (let clash : end.AllMade ≡ end.Fault = sym all ∙ is in cc)
+fault_rose stepped (Ok (Some (event.Committed commit))) before between now all later rose is = absurd (let clash : end.AllMade ≡ end.Fault = sym all ∙ is in cc)
+fault_rose stepped (Ok (Some event.Done)) before between now all later rose is = absurd cc
+fault_rose stepped (Ok (Some event.Aborted)) before between now all later rose is = absurd cc
+fault_rose stepped (Ok (Some event.Taken)) before between now all later rose is = absurd cc
+fault_rose stepped (Err txn_error.Failed) before between now all later rose is = let r = rose refl in omega arith
+fault_rose stepped (Err txn_error.Spent) before between now all later rose is = absurd cc
+fault_rose stepped (Err txn_error.Memory) before between now all later rose is = absurd (let clash : end.AllMade ≡ end.Fault = sym all ∙ is in cc)
+
+-- what is true anyhow is true where there is an error
+pub on_error : {T E P : Type 0} (result : Result T E) → P → OnErr result P
+on_error (Ok value) p = tt
+on_error (Err error) p = p
