@@ -2,7 +2,7 @@
 
 use crate::change::Change;
 use crate::told::{Told, change, counts};
-use pcj_pending::{Pending, pending};
+use pcj_pending::{Pending, has_notification, pending};
 use pcj_table::RowTable;
 use std::alloc::Global;
 use std::process::Abort;
@@ -21,6 +21,11 @@ fn told<T: RowTable>(alloc: Global, table: &mut T) -> Option<[u64; 3]> {
     }
 }
 
+/// Whether there is a notification.
+fn has_any<T: RowTable>(alloc: Global, table: &mut T) -> Option<bool> {
+    has_notification(alloc, table).ok()
+}
+
 /// After a change of one row so much is told.
 fn tells<T: RowTable>(
     rt: &impl Abort,
@@ -32,6 +37,7 @@ fn tells<T: RowTable>(
 ) {
     assert!(rt; change(alloc, table, key, &[], what) == Told::Applied);
     assert!(rt; told(alloc, table) == Some(want));
+    assert!(rt; has_any(alloc, table) == Some(want[0] > 0));
 }
 
 /// A task is counted once, whether it has a lock, a put or both, and not where it was deleted.
