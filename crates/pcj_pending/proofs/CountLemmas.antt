@@ -109,6 +109,13 @@ keys_are_apart test (first ∷ es) sorted = by (test first) (keys_are_apart test
 
 -- ---- two tables
 
+passing_is_there : (test : Entry → Bool) (table : Table) (key : Key) → ((key : Key) → test (key, no_row) ≡ false) → test (key, row_at table key) ≡ true → Contains (keys_that test (finmap.entries table)) key
+passing_is_there test table key nothing passes = key_there test (finmap.entries table) (key, row_at table key) (there (has_nothing (row_at table key)) refl) passes
+  where
+    there : (b : Bool) → has_nothing (row_at table key) ≡ b → Contains (finmap.entries table) (key, row_at table key)
+    there true none = absurd (let clash : false ≡ true = sym (nothing key) ∙ ap (λ found. test (key, found)) (sym (no_row_is (row_at table key) none)) ∙ passes in cc)
+    there false some = there_with_row table key some
+
 -- where a row that passes passed before, but for those of some keys, no more pass than before and those
 pub added_at_most : (test : Entry → Bool) (before after : Table) (keys : List Key) → ((key : Key) → test (key, no_row) ≡ false) →
     ((key : Key) → test (key, row_at after key) ≡ true → (test (key, row_at before key) ≡ true) ⊎ Contains keys key) → rows_that test after ≤ rows_that test before + length keys
@@ -119,15 +126,34 @@ added_at_most test before after keys nothing added =
     let most = no_more_than (keys_that test (finmap.entries after)) (keys_that test (finmap.entries before) ++ keys) (keys_are_apart test (finmap.entries after) (rising after)) each in
     omega (arith, new, old, both, most)
   where
-    was : (key : Key) → test (key, row_at before key) ≡ true → (b : Bool) → has_nothing (row_at before key) ≡ b → Contains (finmap.entries before) (key, row_at before key)
-    was key passes true none = absurd (let clash : false ≡ true = sym (nothing key) ∙ ap (λ found. test (key, found)) (sym (no_row_is (row_at before key) none)) ∙ passes in cc)
-    was key passes false some = there_with_row before key some
-
     each : (key : Key) → Contains (keys_that test (finmap.entries after)) key → Contains (keys_that test (finmap.entries before) ++ keys) key
     each key there =
         let held = of_key test (finmap.entries after) key there in
         by (added key (ap (λ found. test (key, found)) (row_there after (key, held.0) held.1) ∙ held.2))
       where
         by : (test (key, row_at before key) ≡ true) ⊎ Contains keys key → Contains (keys_that test (finmap.entries before) ++ keys) key
-        by (inl passes) = Contains-append_left (keys_that test (finmap.entries before)) keys key (key_there test (finmap.entries before) (key, row_at before key) (was key passes (has_nothing (row_at before key)) refl) passes)
+        by (inl passes) = Contains-append_left (keys_that test (finmap.entries before)) keys key (passing_is_there test before key nothing passes)
         by (inr new) = Contains-append_right (keys_that test (finmap.entries before)) keys key new
+
+-- ---- rows that come and go
+
+-- One row that passed does so no more, and each that passes did before: there is one fewer at least.
+pub taken_away : (test : Entry → Bool) (before after : Table) (key : Key) → ((key : Key) → test (key, no_row) ≡ false) → test (key, row_at before key) ≡ true → test (key, row_at after key) ≡ false →
+    ((other : Key) → test (other, row_at after other) ≡ true → test (other, row_at before other) ≡ true) → rows_that test after + 1 ≤ rows_that test before
+taken_away test before after key nothing was gone others =
+    let new = as_many_keys test (finmap.entries after) in
+    let old = as_many_keys test (finmap.entries before) in
+    let most = no_more_than (key ∷ keys_that test (finmap.entries after)) (keys_that test (finmap.entries before)) (apart, keys_are_apart test (finmap.entries after) (rising after)) each in
+    omega (arith, new, old, most)
+  where
+    passes_after : (other : Key) → Contains (keys_that test (finmap.entries after)) other → test (other, row_at after other) ≡ true
+    passes_after other there = let held = of_key test (finmap.entries after) other there in ap (λ found. test (other, found)) (row_there after (other, held.0) held.1) ∙ held.2
+
+    apart : (other : Key) → Contains (keys_that test (finmap.entries after)) other → same_bytes key other ≡ false
+    apart other there = other_bytes key other (λ same. absurd (let clash : false ≡ true = sym gone ∙ ap (λ k. test (k, row_at after k)) same ∙ passes_after other there in cc))
+
+    each : (other : Key) → Contains (key ∷ keys_that test (finmap.entries after)) other → Contains (keys_that test (finmap.entries before)) other
+    each other there = elim (first_or_later key (keys_that test (finmap.entries after)) other there) [
+      | inl here ↦ passing_is_there test before other nothing (subst (λ k. test (k, row_at before k) ≡ true) here was)
+      | inr later ↦ passing_is_there test before other nothing (others other (passes_after other later))
+    ]

@@ -3,3 +3,4 @@ pub mod FitLemmas
 pub mod QuietLemmas
 pub mod CountLemmas
 pub mod MoveLemmas
+pub mod LockLemmas

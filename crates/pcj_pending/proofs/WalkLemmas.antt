@@ -1,5 +1,5 @@
 -- Walks over the rows of a table: what is still ahead of one, and how much that is.
-use Rattle.std.proofs.Common.{◌≡◌, ◌≤◌, ◌<◌, ◌+◌, ◌^◌, ℕ, suc, Bool, true, false, cond, is_some, ◌&&◌, List, [], ◌∷◌, filter, find, length, Option, Some, None, refl, ap, sym, subst, ◌∙◌, arith}
+use Rattle.std.proofs.Common.{◌≡◌, ◌≤◌, ◌<◌, ◌+◌, ◌^◌, ℕ, suc, Bool, true, false, cond, is_some, nat_lt, ◌&&◌, List, [], ◌∷◌, filter, find, length, Option, Some, None, refl, ap, sym, subst, ◌∙◌, arith}
 use Rattle.std.specs.List.{Contains}
 use Rattle.std.specs.Option.{option_map}
 use Rattle.std.specs.Ordering.{is_lt, ordering_reverse}
@@ -9,7 +9,7 @@ use Rattle.std.specs.FinMap as finmap
 use Rattle.std.specs.FinMap.{len-entries}
 use Rattle.std.specs.FinMap.Entries.{below_all, is_sorted}
 use Rattle.std.proofs.lemmas.Cmp.{nat_list_cmp_total}
-use Rattle.std.proofs.lemmas.Bool.{and_parts, and_left, cond-false}
+use Rattle.std.proofs.lemmas.Bool.{and_parts, and_left, cond-false, lt-ltb}
 use Rattle.pcj_term.specs.Order.{bytes_cmp}
 use Rattle.pcj_term.proofs.ByteLemmas.{less_is}
 use Rattle.pcj_term.proofs.ListLemmas.{first_there, later_there}
@@ -144,6 +144,14 @@ none_left test table is = by (first_row test table) refl is
     by : (o : Option Found) → first_row test table ≡ o → None ≡ option_map (λ (met : Found). met.key) o → rows_that test table ≡ 0
     by None e none = ap length (walk_ends test table e)
     by (Some met) e none = absurd cc
+
+-- something is met exactly where something is ahead
+pub met_any : (test : Key → Entry → Bool) (passes : Entry → Bool) → IsWalk test passes → (table : Table) (after : Key) → is_some (met_key (test after) table) ≡ nat_lt 0 (rows_that (test after) table)
+met_any test passes walk table after = by (met_key (test after) table) refl
+  where
+    by : (o : Option Key) → met_key (test after) table ≡ o → is_some (met_key (test after) table) ≡ nat_lt 0 (rows_that (test after) table)
+    by None e = ap is_some e ∙ sym (ap (nat_lt 0) (none_left (test after) table (sym e)))
+    by (Some key) e = let more = one_fewer test passes walk table after key (sym e) in ap is_some e ∙ sym (lt-ltb 0 (rows_that (test after) table) (omega (arith, more)))
 
 -- ---- the walks of a table
 

@@ -1,10 +1,10 @@
-ghost use Rattle.std.specs.Prelude.{◌≡◌, ◌≤◌, ◌+◌, IfOk};
+ghost use Rattle.std.specs.Prelude.{◌≡◌, ◌≤◌, ◌+◌, nat_lt, IfOk};
 ghost use Rattle.pcj_table.specs.Calls.{HasTableCause};
 ghost use Rattle.pcj_table.specs.Table.{row_at};
 ghost use Rattle.pcj_pending.specs.Pending.{IsFit, locks_of, notifications_of};
 
 use crate::Pending;
-use crate::walk::{count_locked, count_seen};
+use crate::walk::{count_locked, count_seen, is_any_seen};
 use pcj_encode::{KeyRange, task_range};
 use pcj_table::{RowTable, TableError};
 use std::alloc::Global;
@@ -45,6 +45,19 @@ pub fn count_notifications<T: RowTable>(alloc: Global, table: &mut T) -> Result<
 {
     let KeyRange { after, end } = task_range(alloc)?;
     count_seen(table, after, end.as_slice(), END)
+}
+
+/// Whether a task stands, or has a lock.
+///
+/// It makes one call of the table. Errors come as those of `pending`.
+pub fn has_notification<T: RowTable>(alloc: Global, table: &mut T) -> Result<bool, TableError>
+    ensures some { IsFit (row_at (T.rows table.old)) → IfOk result (λ some. some ≡ nat_lt 0 (notifications_of (T.rows table.old))) }
+    ensures same { T.rows table.new ≡ T.rows table.old }
+    ensures cause { HasTableCause (T.failures table.old) (T.failures table.new) result }
+    ensures calls { T.made table.new ≤ T.made table.old + 1 }
+{
+    let KeyRange { after, end } = task_range(alloc)?;
+    is_any_seen(table, after.as_slice(), end.as_slice(), END)
 }
 
 /// How many rows have a lock.

@@ -9,6 +9,8 @@ mod laws;
 mod tally;
 mod walk;
 
-pub use counts::{count_locks, count_notifications, pending};
-pub use laws::{moves_add_one_at_most, quiet_tables_have_nothing_pending};
+pub use counts::{count_locks, count_notifications, has_notification, pending};
+pub use laws::{
+    moves_add_one_at_most, moves_set_and_free_locks, quiet_tables_have_nothing_pending,
+};
 pub use tally::Pending;

@@ -1,4 +1,4 @@
-ghost use Rattle.std.specs.Prelude.{◌≡◌, ◌≤◌, ◌<◌, ◌+◌, ◌^◌, [], IfOk};
+ghost use Rattle.std.specs.Prelude.{◌≡◌, ◌≤◌, ◌<◌, ◌+◌, ◌^◌, nat_lt, [], IfOk};
 ghost use Rattle.std.specs.FinMap as map;
 ghost use Rattle.std.specs.Option.{option_map};
 ghost use Rattle.pcj_table.specs.Calls.{HasTableCause, counted};
@@ -28,6 +28,21 @@ pub(crate) fn count_seen<T: RowTable>(
         seen += 1;
     }
     Ok(seen)
+}
+
+/// Whether any row above one key and below another is seen at a time.
+pub(crate) fn is_any_seen<T: RowTable>(
+    table: &mut T,
+    after: &[u8],
+    end: &[u8],
+    at: u64,
+) -> Result<bool, TableError>
+    ensures some { IfOk result (λ some. some ≡ nat_lt 0 (rows_that (is_next_at after.now end.now at) (T.rows table.old))) }
+    ensures same { T.rows table.new ≡ T.rows table.old }
+    ensures cause { HasTableCause (T.failures table.old) (T.failures table.new) result }
+    ensures calls { T.made table.new ≤ T.made table.old + 1 }
+{
+    Ok(next_seen(table, after, end, at)?.is_some())
 }
 
 /// How many rows have a lock, but for that of the empty key.

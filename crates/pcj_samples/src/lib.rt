@@ -24,6 +24,8 @@ mod mem_table;
 #[cfg(test)]
 mod mutations;
 #[cfg(test)]
+mod notifications;
+#[cfg(test)]
 mod oracles;
 #[cfg(test)]
 mod page_scripts;

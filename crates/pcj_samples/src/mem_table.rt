@@ -6,7 +6,7 @@ ghost use Rattle.pcj_replay.specs.Session.{IsFresh};
 
 use crate::failing::fail_on_one;
 use crate::told::{Told, get};
-use crate::{failing, mutations, walks};
+use crate::{failing, mutations, notifications, walks};
 use pcj_memtable::MemTable;
 use pcj_term::{Items, Memory};
 use std::alloc::Global;
@@ -93,4 +93,22 @@ fn an_eleventh_call_fails(rt: HostRuntime) {
     };
     fail_on_one(&rt, rt.alloc(), &mut table, 11);
     assert!(rt; get(&mut table, b"k") == Told::Failed);
+}
+
+#[test]
+fn tasks_are_counted_once(rt: HostRuntime) {
+    notifications::count_tasks_once(&rt, rt.alloc(), &mut in_memory(rt.alloc()));
+}
+
+#[test]
+fn locks_are_counted(rt: HostRuntime) {
+    notifications::count_locks_of_all_rows(&rt, rt.alloc(), &mut in_memory(rt.alloc()));
+}
+
+#[test]
+fn counts_tell_of_faults(rt: HostRuntime) {
+    let Ok(mut table) = failing_at(rt.alloc(), &[1, 3]) else {
+        panic!(rt; "no memory");
+    };
+    notifications::tell_of_faults(&rt, rt.alloc(), &mut table);
 }
