@@ -50,9 +50,6 @@ apart_locked rows key found lock own locked same apart = record {
 
 -- ---- a commit above all numbers
 
-not_equal : (a b : ℕ) → a < b → not (a == b) ≡ true
-not_equal a b lt = ap not (unequal_false a b (λ e. omega (arith, lt, e)))
-
 owns : (start commit first last : ℕ) → (first ≢ commit) → ((last ≢ commit) ⊎ (first ≡ start)) → is_own start commit first last ≡ true
 owns start commit first last start_differs either = and_from (not (first == commit)) (not (last == commit) || first == start) (ap not (unequal_false first commit start_differs)) (by either)
   where

@@ -43,10 +43,6 @@ mark_valid : (mark : Mark) (triple : Triple) → IsTriple triple → IsName (mar
 mark_valid (by_order order) triple valid = valid
 mark_valid as_task triple valid = valid
 
-mark_granted : (next : ℕ) (mark : Mark) (triple : Triple) → IsTripleGranted next triple → IsNameGranted next (mark_name mark triple)
-mark_granted next (by_order order) triple granted = granted
-mark_granted next as_task triple granted = granted
-
 -- no two triples share one of their names
 triples_differ : (mark other : Mark) (triple more : Triple) → same_triple triple more ≡ false → mark_name mark triple ≢ mark_name other more
 triples_differ (by_order order) (by_order order') triple more apart e = let same : triple ≡ more = cc in let clash : true ≡ false = sym (same_triple_refl triple) ∙ ap (same_triple triple) same ∙ apart in cc
