@@ -1,3 +1,6 @@
 pub mod Job
 pub mod Laws
 pub mod Line
+pub mod Reply
+pub mod Run
+pub mod State

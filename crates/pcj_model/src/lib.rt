@@ -11,6 +11,9 @@ mod line;
 mod print;
 
 pub use event::Event;
-pub use laws::{lines_stand_apart, steps_are_told};
+pub use laws::{
+    commands_are_answered, crashed_loads_are_gone, lines_stand_apart, loads_join_whole,
+    replies_are_told, runs_go_on, steps_are_told, timestamps_rise, transcripts_are_told,
+};
 pub use line::Line;
 pub use print::{push_line, push_lines};
