@@ -1,8 +1,8 @@
 -- Runs, taken apart and told from their lines.
 use Rattle.std.proofs.Common.{◌≡◌, [], ◌∷◌, refl, ap, sym, subst, ◌∙◌}
 use Rattle.pcj_model.specs.Reply.{Reply}
-use Rattle.pcj_model.specs.Run.{Run}
-use Rattle.pcj_model.specs.Laws.{TranscriptsTell, RunsGoOn, RunsHaveFronts, all_lines}
+use Rattle.pcj_model.specs.Run.{Run, all_lines}
+use Rattle.pcj_model.specs.Laws.{TranscriptsTell, RunsGoOn, RunsHaveFronts}
 use Rattle.pcj_model.proofs.ReplyLaws.{replies_tell, replies_end, closes, one_front}
 
 pub transcripts_tell : TranscriptsTell

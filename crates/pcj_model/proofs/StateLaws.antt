@@ -11,7 +11,8 @@ use Rattle.pcj_model.specs.Job.{Job, MayCommit, IsTimestampAbove, beside}
 use Rattle.pcj_model.specs.Line.{Line}
 use Rattle.pcj_model.specs.State.{State, last_after}
 use Rattle.pcj_model.specs.Reply.{Language, Reply, jobs_left}
-use Rattle.pcj_model.specs.Laws.{TimestampsRise, NothingIsLeft, is_opening, all_lines}
+use Rattle.pcj_model.specs.Run.{all_lines}
+use Rattle.pcj_model.specs.Laws.{TimestampsRise, NothingIsLeft, is_opening}
 
 -- ---- timestamps
 

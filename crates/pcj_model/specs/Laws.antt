@@ -1,13 +1,13 @@
 -- What was said can be told from its print, line by line, and what a run has come to from what was said.
 use Rattle.std.specs.Prelude.{◌≡◌, ◌⊎◌, ℕ, ◌+◌, ◌<◌, ◌≤◌, ◌^◌, Bool, true, false, not, ◌==◌, List, [], ◌∷◌, ◌++◌, map, Option, Some, None}
-use Rattle.std.specs.List.{list_all, list_any, slice_split, flat_map, AllByRecursion, Contains}
+use Rattle.std.specs.List.{list_all, list_any, slice_split, AllByRecursion, Contains}
 use Rattle.pcj_term.specs.Triple.{Joins}
 use Rattle.pcj_script.specs.Commands.{Command}
 use Rattle.pcj_script.specs.Commands.Command.{Load, Register, StepClient, Crash, Status as AsksStatus, Answers}
 use Rattle.pcj_model.specs.Job.{Job, StepsReply}
 use Rattle.pcj_model.specs.State.{State}
 use Rattle.pcj_model.specs.Reply.{Language, Reply}
-use Rattle.pcj_model.specs.Run.{Run}
+use Rattle.pcj_model.specs.Run.{Run, all_lines}
 use Rattle.pcj_model.specs.Line.{Event, Line, line_text, printed}
 use Rattle.pcj_model.specs.Line.Event.{Loaded, Registered, Busy, Refused, Committed, Done, Aborted, Taken, Nothing, Fault, Steps, Crashed}
 use Rattle.pcj_model.specs.Line.Line.{Client, AllCrashed, OracleCrashed, Status, StatusFault, Row, Rows, NoQuery, AnswersFault, Spent, Script}
@@ -98,10 +98,6 @@ CanBeAnswered = (language : Language) (old : State) (command : Command) → Asks
     (lines : List Line) × (new : State) × Reply language old command lines new × (list_any is_fault lines ≡ false)
 
 -- ---- runs
-
--- all lines of a transcript, one after another
-abbrev pub all_lines : List (List Line) → List Line
-all_lines transcript = flat_map (λ lines. lines) transcript
 
 -- the lines of a run tell which of them answer which command, and what it has come to
 abbrev pub TranscriptsTell : Type 0

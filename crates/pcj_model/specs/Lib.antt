@@ -1,3 +1,4 @@
+pub mod Ending
 pub mod Job
 pub mod Laws
 pub mod Line

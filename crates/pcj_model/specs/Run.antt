@@ -1,5 +1,6 @@
 -- Commands, one after another, and what they answer.
 use Rattle.std.specs.Prelude.{◌≡◌, ◌⊎◌, ℕ, ◌≤◌, List, [], ◌∷◌, ◌++◌, Some}
+use Rattle.std.specs.List.{flat_map}
 use Rattle.pcj_script.specs.Commands.{Command}
 use Rattle.pcj_script.specs.Commands.Command.{StepClient}
 use Rattle.pcj_model.specs.Job.{Job, MayCommit, grown}
@@ -16,6 +17,10 @@ Run language old [] (lines ∷ transcript) new = ⊥
 Run language old (command ∷ commands) [] new = ⊥
 Run language old (command ∷ commands) (lines ∷ transcript) new =
     (mid : State) × Reply language old command lines mid × Run language mid commands transcript new
+
+-- all lines of a transcript, one after another
+abbrev pub all_lines : List (List Line) → List Line
+all_lines transcript = flat_map (λ lines. lines) transcript
 
 -- ---- a run whose last command is cut
 

@@ -5,11 +5,13 @@
 //! came to can be told from their lines: `steps_are_told` is the proof.
 #![tactic(auto)]
 
+mod ending;
 mod event;
 mod laws;
 mod line;
 mod print;
 
+pub use ending::Ending;
 pub use event::Event;
 pub use laws::{
     commands_are_answered, crashed_loads_are_gone, lines_stand_apart, loads_join_whole,
