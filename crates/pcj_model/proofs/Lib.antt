@@ -4,3 +4,4 @@ pub mod ReplyLaws
 pub mod RunLaws
 pub mod StateLaws
 pub mod StepLaws
+pub mod TextLaws

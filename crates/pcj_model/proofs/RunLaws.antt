@@ -2,8 +2,9 @@
 use Rattle.std.proofs.Common.{◌≡◌, [], ◌∷◌, refl, ap, sym, subst, ◌∙◌}
 use Rattle.pcj_model.specs.Reply.{Reply}
 use Rattle.pcj_model.specs.Run.{Run, all_lines}
-use Rattle.pcj_model.specs.Laws.{TranscriptsTell, RunsGoOn, RunsHaveFronts}
+use Rattle.pcj_model.specs.Laws.{TranscriptsTell, PrintsTell, RunsGoOn, RunsHaveFronts}
 use Rattle.pcj_model.proofs.ReplyLaws.{replies_tell, replies_end, closes, one_front}
+use Rattle.pcj_model.proofs.TextLaws.{lines_told}
 
 pub transcripts_tell : TranscriptsTell
 transcripts_tell language old [] [] [] new other a b e = (refl, a ∙ sym b)
@@ -19,6 +20,10 @@ transcripts_tell language old (command ∷ commands) (lines ∷ transcript) (mor
     let rest : Run language a.0 commands others other = subst (λ s. Run language s commands others other) mid b.2 in
     let same = transcripts_tell language a.0 commands transcript others new other a.2 rest cut.1 in
     (ap (λ ls. lines ∷ ls) same.0 ∙ ap (λ l. l ∷ others) cut.0, same.1)
+
+pub prints_tell : PrintsTell
+prints_tell language old commands transcript others new other a b clear clear' e =
+    transcripts_tell language old commands transcript others new other a b (lines_told (all_lines transcript) (all_lines others) clear clear' e)
 
 pub runs_go_on : RunsGoOn
 runs_go_on language old mid new [] back [] more a b = subst (λ s. Run language s back more new) a b

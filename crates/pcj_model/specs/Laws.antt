@@ -1,5 +1,5 @@
 -- What was said can be told from its print, line by line, and what a run has come to from what was said.
-use Rattle.std.specs.Prelude.{◌≡◌, ◌⊎◌, ℕ, ◌+◌, ◌<◌, ◌≤◌, ◌^◌, Bool, true, false, not, ◌==◌, List, [], ◌∷◌, ◌++◌, map, Option, Some, None}
+use Rattle.std.specs.Prelude.{◌≡◌, ◌⊎◌, ℕ, ◌+◌, ◌<◌, ◌≤◌, ◌^◌, Bool, true, false, not, ◌&&◌, ◌==◌, nat_le, List, [], ◌∷◌, ◌++◌, map, Option, Some, None}
 use Rattle.std.specs.List.{list_all, list_any, slice_split, AllByRecursion, Contains}
 use Rattle.pcj_term.specs.Triple.{Joins}
 use Rattle.pcj_script.specs.Commands.{Command}
@@ -53,6 +53,30 @@ IsLine (Script line kind) = Fits64 line
 abbrev pub StandApart : Type 0
 StandApart = (lines : List Line) → AllByRecursion IsLine lines → slice_split (λ byte. byte == 10) (printed lines) ≡ map line_text lines ++ [] ∷ []
 
+-- ---- texts
+
+abbrev pub HasNoBlank : List ℕ → Type 0
+HasNoBlank text = list_all (λ byte. not (byte == 32)) text ≡ true
+
+-- its first byte is a letter from a to z
+abbrev pub begins_small : List ℕ → Bool
+begins_small [] = false
+begins_small (byte ∷ bytes) = nat_le 97 byte && nat_le byte 122
+
+-- a name has no blank, and a row begins with no small letter, as no printed term does
+abbrev pub StandsOut : Line → Type 0
+StandsOut (Client client (Registered number name)) = HasNoBlank name
+StandsOut (Row row) = begins_small row ≡ false
+StandsOut (NoQuery name) = HasNoBlank name
+StandsOut line = Unit {0}
+
+abbrev pub IsClear : Line → Type 0
+IsClear line = IsLine line × StandsOut line
+
+-- different lines have different texts
+abbrev pub TextsTell : Type 0
+TextsTell = (line other : Line) → IsClear line → IsClear other → line_text line ≡ line_text other → line ≡ other
+
 -- ---- steps
 
 -- the lines of a command's steps tell whether the job was committed, with which number, and what is left of it
@@ -104,6 +128,13 @@ abbrev pub TranscriptsTell : Type 0
 TranscriptsTell = (language : Language) (old : State) (commands : List Command) (transcript others : List (List Line)) (new other : State) →
     Run language old commands transcript new → Run language old commands others other → all_lines transcript ≡ all_lines others →
     (transcript ≡ others) × (new ≡ other)
+
+-- so does their print
+abbrev pub PrintsTell : Type 0
+PrintsTell = (language : Language) (old : State) (commands : List Command) (transcript others : List (List Line)) (new other : State) →
+    Run language old commands transcript new → Run language old commands others other →
+    AllByRecursion IsClear (all_lines transcript) → AllByRecursion IsClear (all_lines others) →
+    printed (all_lines transcript) ≡ printed (all_lines others) → (transcript ≡ others) × (new ≡ other)
 
 -- a run that goes on from the end of a run is one
 abbrev pub RunsGoOn : Type 0

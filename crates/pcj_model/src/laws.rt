@@ -1,9 +1,14 @@
-ghost use Rattle.pcj_model.specs.Laws.{StandApart, AreTold, RepliesTell, LoadsJoinWhole, CanBeAnswered, TranscriptsTell, RunsGoOn, RunsHaveFronts, NothingIsLeft, TimestampsRise};
+ghost use Rattle.pcj_model.specs.Laws.{StandApart, TextsTell, AreTold, RepliesTell, LoadsJoinWhole, CanBeAnswered, TranscriptsTell, PrintsTell, RunsGoOn, RunsHaveFronts, NothingIsLeft, TimestampsRise};
 
 /// The lines of a print are the lines that were printed, one after another: no line has an LF inside, where no name and no
 /// row has one.
 pub fn lines_stand_apart()
     ensures { StandApart }
+{}
+
+/// A line can be told from its text, where no name has a blank and no row begins with a small letter.
+pub fn texts_tell_lines()
+    ensures { TextsTell }
 {}
 
 /// What the steps of a command came to can be told from its lines: whether the job was committed, with which number, and
@@ -27,10 +32,11 @@ pub fn commands_are_answered()
     ensures { CanBeAnswered }
 {}
 
-/// What a run came to can be told from its lines alone, one after another: which of them answer which command, and so
-/// which loads are committed and what is in flight.
+/// What a run came to can be told from its lines alone, one after another (`lines`), and so from its print (`print`): which
+/// of them answer which command, which loads are committed, and what is in flight.
 pub fn transcripts_are_told()
-    ensures { TranscriptsTell }
+    ensures lines { TranscriptsTell }
+    ensures print { PrintsTell }
 {}
 
 /// A front of a run is a run, and from its end goes on the rest (`fronts`); and such two are a run (`go_on`).
