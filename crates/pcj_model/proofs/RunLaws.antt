@@ -1,8 +1,9 @@
 -- Runs, taken apart and told from their lines.
-use Rattle.std.proofs.Common.{◌≡◌, [], ◌∷◌, refl, ap, sym, subst, ◌∙◌}
+use Rattle.std.proofs.Common.{◌≡◌, [], ◌∷◌, ◌++◌, refl, ap, sym, subst, ◌∙◌}
+use Rattle.std.proofs.lemmas.List.{append_cancel_right}
 use Rattle.pcj_model.specs.Reply.{Reply}
 use Rattle.pcj_model.specs.Run.{Run, all_lines}
-use Rattle.pcj_model.specs.Laws.{TranscriptsTell, PrintsTell, RunsGoOn, RunsHaveFronts}
+use Rattle.pcj_model.specs.Laws.{TranscriptsTell, PrintsTell, RunsGoOn, RunsHaveFronts, EndsAreTold}
 use Rattle.pcj_model.proofs.ReplyLaws.{replies_tell, replies_end, closes, one_front}
 use Rattle.pcj_model.proofs.TextLaws.{lines_told}
 
@@ -45,3 +46,9 @@ runs_have_fronts language old new (command ∷ front) back (lines ∷ transcript
       run = (a.0, a.1, rest.run);
       rest = rest.rest;
     }
+
+pub ends_are_told : EndsAreTold
+ends_are_told language start commands closing text end other a b clear clear' =
+    let lines : all_lines a.transcript ++ closing ≡ all_lines b.transcript ++ closing =
+    lines_told (all_lines a.transcript ++ closing) (all_lines b.transcript ++ closing) clear clear' (sym a.written ∙ b.written) in
+    (transcripts_tell language start commands a.transcript b.transcript end other a.run b.run (append_cancel_right (all_lines a.transcript) (all_lines b.transcript) closing lines)).1

@@ -8,6 +8,7 @@ use Rattle.pcj_model.specs.Job.{Job, StepsReply}
 use Rattle.pcj_model.specs.State.{State}
 use Rattle.pcj_model.specs.Reply.{Language, Reply}
 use Rattle.pcj_model.specs.Run.{Run, all_lines}
+use Rattle.pcj_model.specs.Ending.{Tells}
 use Rattle.pcj_model.specs.Line.{Event, Line, line_text, printed}
 use Rattle.pcj_model.specs.Line.Event.{Loaded, Registered, Busy, Refused, Committed, Done, Aborted, Taken, Nothing, Fault, Steps, Crashed}
 use Rattle.pcj_model.specs.Line.Line.{Client, AllCrashed, OracleCrashed, Status, StatusFault, Row, Rows, NoQuery, AnswersFault, Spent, Script}
@@ -171,3 +172,11 @@ NothingIsLeft = (language : Language) (old : State) (commands : List Command) (t
 abbrev pub TimestampsRise : Type 0
 TimestampsRise = (language : Language) (old : State) (commands : List Command) (transcript : List (List Line)) (new : State) →
     Run language old commands transcript new → old.last < 2 ^ 48 → (old.last ≤ new.last) × (new.last < 2 ^ 48)
+
+-- ---- endings
+
+-- what is written of a run to its end settles the state that it leaves
+abbrev pub EndsAreTold : Type 0
+EndsAreTold = (language : Language) (start : State) (commands : List Command) (closing : List Line) (text : List ℕ) (end other : State) →
+    (a : Tells language start commands closing text end) (b : Tells language start commands closing text other) →
+    AllByRecursion IsClear (all_lines a.transcript ++ closing) → AllByRecursion IsClear (all_lines b.transcript ++ closing) → end ≡ other

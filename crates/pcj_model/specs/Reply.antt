@@ -20,7 +20,8 @@ pub record Refusal : Type 0 where
   pub place : ℕ
   pub kind : ℕ
 
--- how a text is refused, if it is no query; and else the rows of its answer over some triples, as they are printed
+-- How a text is refused, if it is no query; and else the rows of its answer over some triples, as they are printed. They are
+-- to be the same in whatever order the triples stand.
 pub record Language : Type 0 where
   pub refusal : List ℕ → Option Refusal
   pub rows : List ℕ → List Triple → List (List ℕ)
@@ -109,7 +110,8 @@ pub record HasNothing (old : State) (client : ℕ) (lines : List Line) (new : St
   pub told : lines ≡ Client client Nothing ∷ Client client (Steps 0) ∷ []
   pub same : new ≡ old
 
--- `c1 committed 2`, `c1 done`, `c1 steps 20`: its load goes on
+-- Its load goes on. With two triples and nobody beside it `step c1 100` answers `c1 committed 2`, `c1 done`, `c1 steps 20`;
+-- and `c1 aborted`, `c1 steps 1` where another client has committed the triple that both were to load.
 pub record Advances (old : State) (client most : ℕ) (lines : List Line) (new : State) : Type 0 where
   pub job : Job
   pub has : old.jobs client ≡ Some job
@@ -131,6 +133,8 @@ jobs_left jobs (whose.Client client) = with_job jobs client None
 jobs_left jobs whose.All = λ client. None
 jobs_left jobs whose.Oracle = jobs
 
+-- `c1 crashed`, whether it had a load or not. Behind its twelfth step, `c1 committed 2`, the triples stay those of the load;
+-- behind its eleventh there are none, and none will come.
 pub record Crashes (old : State) (crashed : Crashed) (lines : List Line) (new : State) : Type 0 where
   pub told : lines ≡ crash_line crashed ∷ []
   pub left : new ≡ with_jobs old (jobs_left old.jobs crashed)

@@ -1,5 +1,5 @@
 -- Commands, one after another, and what they answer.
-use Rattle.std.specs.Prelude.{◌≡◌, ◌⊎◌, ℕ, ◌≤◌, List, [], ◌∷◌, ◌++◌, Some}
+use Rattle.std.specs.Prelude.{◌≡◌, ◌⊎◌, ℕ, ◌≤◌, List, [], ◌∷◌, Some}
 use Rattle.std.specs.List.{flat_map}
 use Rattle.pcj_script.specs.Commands.{Command}
 use Rattle.pcj_script.specs.Commands.Command.{StepClient}
@@ -22,7 +22,7 @@ Run language old (command ∷ commands) (lines ∷ transcript) new =
 abbrev pub all_lines : List (List Line) → List Line
 all_lines transcript = flat_map (λ lines. lines) transcript
 
--- ---- a run whose last command is cut
+-- ---- a command that is cut
 
 -- the load of a client was committed, which is told, and no more is
 pub record CutsSteps (old : State) (command : Command) (lines : List Line) (new : State) : Type 0 where
@@ -42,15 +42,3 @@ pub record CutsSteps (old : State) (command : Command) (lines : List Line) (new 
 -- a command that is cut has told nothing, and no triple joined; or else a load was committed
 abbrev pub Cut : State → Command → List Line → State → Type 0
 Cut old command lines new = ((lines ≡ []) × (new ≡ old)) ⊎ CutsSteps old command lines new
-
--- the last of the commands is cut
-pub record CutRun (language : Language) (old : State) (commands : List Command) (transcript : List (List Line)) (new : State) : Type 0 where
-  pub whole : List Command
-  pub last : Command
-  pub split : commands ≡ whole ++ last ∷ []
-  pub told : List (List Line)
-  pub mid : State
-  pub run : Run language old whole told mid
-  pub lines : List Line
-  pub cut : Cut mid last lines new
-  pub is : transcript ≡ told ++ lines ∷ []

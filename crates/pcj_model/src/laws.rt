@@ -1,4 +1,4 @@
-ghost use Rattle.pcj_model.specs.Laws.{StandApart, TextsTell, AreTold, RepliesTell, LoadsJoinWhole, CanBeAnswered, TranscriptsTell, PrintsTell, RunsGoOn, RunsHaveFronts, NothingIsLeft, TimestampsRise};
+ghost use Rattle.pcj_model.specs.Laws.{StandApart, TextsTell, AreTold, RepliesTell, LoadsJoinWhole, CanBeAnswered, TranscriptsTell, PrintsTell, RunsGoOn, RunsHaveFronts, NothingIsLeft, TimestampsRise, EndsAreTold};
 
 /// The lines of a print are the lines that were printed, one after another: no line has an LF inside, where no name and no
 /// row has one.
@@ -53,4 +53,9 @@ pub fn crashed_loads_are_gone()
 /// The greatest timestamp that was told never falls, and is below 2^48.
 pub fn timestamps_rise()
     ensures { TimestampsRise }
+{}
+
+/// Where a run was told whole, what is written settles the state that it leaves: the triples of its committed loads.
+pub fn endings_are_told()
+    ensures { EndsAreTold }
 {}
