@@ -1,2 +1,7 @@
+pub mod JoinLaws
 pub mod LineLaws
+pub mod ReplyLaws
+pub mod RunLaws
+pub mod StateLaws
 pub mod StepLaws
+pub mod TextLaws

@@ -77,7 +77,7 @@ event_is_clean client Fault c h = then_text (codes " fault") refl (client_part c
 event_is_clean client (Steps count) c h = then_number count h (then_text (codes " steps ") refl (client_part client c))
 event_is_clean client Crashed c h = then_text (codes " crashed") refl (client_part client c)
 
-kind_fits : (kind : ScriptKind) → Fits64 (number_of kind)
+pub kind_fits : (kind : ScriptKind) → Fits64 (number_of kind)
 kind_fits UnknownCommand = omega arith
 kind_fits BadActor = omega arith
 kind_fits BadNumber = omega arith

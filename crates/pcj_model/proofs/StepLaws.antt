@@ -7,30 +7,30 @@ use Rattle.pcj_model.specs.Job.{StepsEnd, steps_lines}
 use Rattle.pcj_model.specs.Job.StepsEnd.{AllMade, IsDone, IsAborted, Fails}
 use Rattle.pcj_model.specs.Laws.{AreTold}
 
-abbrev commit_in : List Line → Option ℕ
+abbrev pub commit_in : List Line → Option ℕ
 commit_in (Client client (Committed commit) ∷ lines) = Some commit
 commit_in lines = None
 
-abbrev end_in : List Line → StepsEnd
+abbrev pub end_in : List Line → StepsEnd
 end_in (Client client (Committed commit) ∷ lines) = end_in lines
 end_in (Client client Done ∷ lines) = IsDone
 end_in (Client client Aborted ∷ lines) = IsAborted
 end_in (Client client Fault ∷ lines) = Fails
 end_in lines = AllMade
 
-abbrev count_in : List Line → ℕ
+abbrev pub count_in : List Line → ℕ
 count_in (Client client (Steps count) ∷ []) = count
 count_in (line ∷ lines) = count_in lines
 count_in [] = 0
 
-commit_told : (client : ℕ) (commit : Option ℕ) (end : StepsEnd) (count : ℕ) → commit_in (steps_lines client commit end count) ≡ commit
+pub commit_told : (client : ℕ) (commit : Option ℕ) (end : StepsEnd) (count : ℕ) → commit_in (steps_lines client commit end count) ≡ commit
 commit_told client None AllMade count = refl
 commit_told client None IsDone count = refl
 commit_told client None IsAborted count = refl
 commit_told client None Fails count = refl
 commit_told client (Some commit) end count = refl
 
-end_told : (client : ℕ) (commit : Option ℕ) (end : StepsEnd) (count : ℕ) → end_in (steps_lines client commit end count) ≡ end
+pub end_told : (client : ℕ) (commit : Option ℕ) (end : StepsEnd) (count : ℕ) → end_in (steps_lines client commit end count) ≡ end
 end_told client None AllMade count = refl
 end_told client None IsDone count = refl
 end_told client None IsAborted count = refl
@@ -40,7 +40,7 @@ end_told client (Some commit) IsDone count = refl
 end_told client (Some commit) IsAborted count = refl
 end_told client (Some commit) Fails count = refl
 
-count_told : (client : ℕ) (commit : Option ℕ) (end : StepsEnd) (count : ℕ) → count_in (steps_lines client commit end count) ≡ count
+pub count_told : (client : ℕ) (commit : Option ℕ) (end : StepsEnd) (count : ℕ) → count_in (steps_lines client commit end count) ≡ count
 count_told client None AllMade count = refl
 count_told client None IsDone count = refl
 count_told client None IsAborted count = refl

@@ -1,6 +1,8 @@
 -- A load in flight, and what the steps of one command come to.
-use Rattle.std.specs.Prelude.{◌≡◌, ◌⊎◌, ℕ, ◌+◌, ◌-◌, ◌<◌, ◌≤◌, Bool, true, false, ◌||◌, List, [], ◌∷◌, ◌++◌, map, Option, Some, None, is_some}
+use Rattle.std.specs.Prelude.{◌≡◌, ◌⊎◌, ℕ, ◌+◌, ◌-◌, ◌^◌, ◌<◌, ◌≤◌, nat_le, Bool, true, false, ◌||◌, List, [], ◌∷◌, ◌++◌, length, map, Option, Some, None, is_some}
+use Rattle.std.specs.List.{list_any}
 use Rattle.pcj_term.specs.declared.triple.Triple.{Triple}
+use Rattle.pcj_term.specs.Triple.{same_triple}
 use Rattle.pcj_model.specs.Line.{Event, Line}
 use Rattle.pcj_model.specs.Line.Event.{Committed, Done, Aborted, Fault, Steps}
 use Rattle.pcj_model.specs.Line.Line.{Client}
@@ -14,8 +16,31 @@ pub record Job : Type 0 where
   pub steps : ℕ
   -- whether somebody else made a step after its first n + 1 of n triples: before those no row of it can be locked
   pub met : Bool
-  -- whether one of its triples was committed by another since its opening line
+  -- whether one of its triples joined those that are committed since its opening line
   pub rival : Bool
+
+-- a load that begins
+abbrev pub new_job : ℕ → List Triple → Job
+new_job start triples = record { start = start; triples = triples; is_committed = false; steps = 0; met = false; rival = false }
+
+abbrev pub is_among : List Triple → Triple → Bool
+is_among triples triple = list_any (same_triple triple) triples
+
+-- The job, where somebody else made a step with which these triples joined. The job's primary can be there to be met after
+-- its first n + 1 steps, which are the reads of its n triples and a prewrite.
+abbrev pub beside : List Triple → Job → Job
+beside joined job = record {
+  start = job.start;
+  triples = job.triples;
+  is_committed = job.is_committed;
+  steps = job.steps;
+  met = job.met || nat_le (length job.triples + 1) job.steps;
+  rival = job.rival || list_any (is_among job.triples) joined;
+}
+
+-- a timestamp above another number: there are none from 2^48 on
+abbrev pub IsTimestampAbove : ℕ → ℕ → Type 0
+IsTimestampAbove below number = (below < number) × (number < 2 ^ 48)
 
 -- ---- the steps of one command
 
@@ -40,10 +65,10 @@ end_events Fails = Fault ∷ []
 abbrev pub steps_lines : ℕ → Option ℕ → StepsEnd → ℕ → List Line
 steps_lines client commit end count = map (Client client) (commit_events commit ++ end_events end ++ Steps count ∷ [])
 
--- a commit is above the job's start, and comes once
+-- a commit is a timestamp above the job's start, and comes once
 abbrev pub MayCommit : Job → Option ℕ → Type 0
 MayCommit job None = Unit {0}
-MayCommit job (Some commit) = (job.is_committed ≡ false) × (job.start < commit)
+MayCommit job (Some commit) = (job.is_committed ≡ false) × IsTimestampAbove job.start commit
 
 -- a job is done once it is committed, and aborted only before that, where another came between
 abbrev pub MayEnd : Job → Option ℕ → StepsEnd → Type 0

@@ -1,7 +1,14 @@
--- What was said can be told from its print, line by line.
-use Rattle.std.specs.Prelude.{◌≡◌, ℕ, ◌<◌, ◌^◌, true, not, ◌==◌, List, [], ◌∷◌, ◌++◌, map, Option}
-use Rattle.std.specs.List.{list_all, slice_split, AllByRecursion}
+-- What was said can be told from its print, line by line, and what a run has come to from what was said.
+use Rattle.std.specs.Prelude.{◌≡◌, ◌⊎◌, ℕ, ◌+◌, ◌<◌, ◌≤◌, ◌^◌, Bool, true, false, not, ◌&&◌, ◌==◌, nat_le, List, [], ◌∷◌, ◌++◌, map, Option, Some, None}
+use Rattle.std.specs.List.{list_all, list_any, slice_split, AllByRecursion, Contains}
+use Rattle.pcj_term.specs.Triple.{Joins}
+use Rattle.pcj_script.specs.Commands.{Command}
+use Rattle.pcj_script.specs.Commands.Command.{Load, Register, StepClient, Crash, Status as AsksStatus, Answers}
 use Rattle.pcj_model.specs.Job.{Job, StepsReply}
+use Rattle.pcj_model.specs.State.{State}
+use Rattle.pcj_model.specs.Reply.{Language, Reply}
+use Rattle.pcj_model.specs.Run.{Run, all_lines}
+use Rattle.pcj_model.specs.Ending.{Tells}
 use Rattle.pcj_model.specs.Line.{Event, Line, line_text, printed}
 use Rattle.pcj_model.specs.Line.Event.{Loaded, Registered, Busy, Refused, Committed, Done, Aborted, Taken, Nothing, Fault, Steps, Crashed}
 use Rattle.pcj_model.specs.Line.Line.{Client, AllCrashed, OracleCrashed, Status, StatusFault, Row, Rows, NoQuery, AnswersFault, Spent, Script}
@@ -47,9 +54,129 @@ IsLine (Script line kind) = Fits64 line
 abbrev pub StandApart : Type 0
 StandApart = (lines : List Line) → AllByRecursion IsLine lines → slice_split (λ byte. byte == 10) (printed lines) ≡ map line_text lines ++ [] ∷ []
 
+-- ---- texts
+
+abbrev pub HasNoBlank : List ℕ → Type 0
+HasNoBlank text = list_all (λ byte. not (byte == 32)) text ≡ true
+
+-- its first byte is a letter from a to z
+abbrev pub begins_small : List ℕ → Bool
+begins_small [] = false
+begins_small (byte ∷ bytes) = nat_le 97 byte && nat_le byte 122
+
+-- a name has no blank, and a row begins with no small letter, as no printed term does
+abbrev pub StandsOut : Line → Type 0
+StandsOut (Client client (Registered number name)) = HasNoBlank name
+StandsOut (Row row) = begins_small row ≡ false
+StandsOut (NoQuery name) = HasNoBlank name
+StandsOut line = Unit {0}
+
+abbrev pub IsClear : Line → Type 0
+IsClear line = IsLine line × StandsOut line
+
+-- different lines have different texts
+abbrev pub TextsTell : Type 0
+TextsTell = (line other : Line) → IsClear line → IsClear other → line_text line ≡ line_text other → line ≡ other
+
 -- ---- steps
 
 -- the lines of a command's steps tell whether the job was committed, with which number, and what is left of it
 abbrev pub AreTold : Type 0
 AreTold = (job : Job) (client most : ℕ) (lines : List Line) (commit other : Option ℕ) (after left : Option Job) →
     StepsReply job client most lines commit after → StepsReply job client most lines other left → (commit ≡ other) × (after ≡ left)
+
+-- ---- replies
+
+-- the lines of a reply tell the state that it leaves
+abbrev pub RepliesTell : Type 0
+RepliesTell = (language : Language) (old : State) (command : Command) (lines : List Line) (new other : State) →
+    Reply language old command lines new → Reply language old command lines other → new ≡ other
+
+-- the triples of a load in flight have joined, all of them, and its `committed` line stands among these
+abbrev pub JoinsWhole : State → List Line → State → Type 0
+JoinsWhole old lines new =
+    (client : ℕ) × (job : Job) × (commit : ℕ) × (old.jobs client ≡ Some job) × Contains lines (Client client (Committed commit)) × Joins old.triples new.triples job.triples
+
+-- no command changes the triples but by the commit of one load, which is told
+abbrev pub LoadsJoinWhole : Type 0
+LoadsJoinWhole = (language : Language) (old : State) (command : Command) (lines : List Line) (new : State) →
+    Reply language old command lines new → (new.triples ≡ old.triples) ⊎ JoinsWhole old lines new
+
+-- it asks for a step at least, as each command of a script does
+abbrev pub AsksSteps : Command → Type 0
+AsksSteps (Load client text) = Unit {0}
+AsksSteps (Register client name text) = Unit {0}
+AsksSteps (StepClient client most) = 1 ≤ most
+AsksSteps (Crash crashed) = Unit {0}
+AsksSteps AsksStatus = Unit {0}
+AsksSteps (Answers name) = Unit {0}
+
+abbrev pub is_fault : Line → Bool
+is_fault (Client client Fault) = true
+is_fault StatusFault = true
+is_fault AnswersFault = true
+is_fault line = false
+
+-- a command can be answered without a fault in every state, while there are timestamps
+abbrev pub CanBeAnswered : Type 0
+CanBeAnswered = (language : Language) (old : State) (command : Command) → AsksSteps command → old.last + 2 < 2 ^ 48 →
+    (lines : List Line) × (new : State) × Reply language old command lines new × (list_any is_fault lines ≡ false)
+
+-- ---- runs
+
+-- the lines of a run tell which of them answer which command, and what it has come to
+abbrev pub TranscriptsTell : Type 0
+TranscriptsTell = (language : Language) (old : State) (commands : List Command) (transcript others : List (List Line)) (new other : State) →
+    Run language old commands transcript new → Run language old commands others other → all_lines transcript ≡ all_lines others →
+    (transcript ≡ others) × (new ≡ other)
+
+-- so does their print
+abbrev pub PrintsTell : Type 0
+PrintsTell = (language : Language) (old : State) (commands : List Command) (transcript others : List (List Line)) (new other : State) →
+    Run language old commands transcript new → Run language old commands others other →
+    AllByRecursion IsClear (all_lines transcript) → AllByRecursion IsClear (all_lines others) →
+    printed (all_lines transcript) ≡ printed (all_lines others) → (transcript ≡ others) × (new ≡ other)
+
+-- a run that goes on from the end of a run is one
+abbrev pub RunsGoOn : Type 0
+RunsGoOn = (language : Language) (old mid new : State) (front back : List Command) (told more : List (List Line)) →
+    Run language old front told mid → Run language mid back more new → Run language old (front ++ back) (told ++ more) new
+
+-- a run of some commands, and from its end one of those behind them
+pub record IsCutBehind (language : Language) (old : State) (front back : List Command) (transcript : List (List Line)) (new : State) : Type 0 where
+  pub told : List (List Line)
+  pub more : List (List Line)
+  pub mid : State
+  pub is : transcript ≡ told ++ more
+  pub run : Run language old front told mid
+  pub rest : Run language mid back more new
+
+-- the front of a run is a run, and so is what follows it
+abbrev pub RunsHaveFronts : Type 0
+RunsHaveFronts = (language : Language) (old new : State) (front back : List Command) (transcript : List (List Line)) →
+    Run language old (front ++ back) transcript new → IsCutBehind language old front back transcript new
+
+-- a load begins with this line
+abbrev pub is_opening : Line → Bool
+is_opening (Client client (Loaded number triples)) = true
+is_opening line = false
+
+-- Where nobody has a load in flight, as after a crash of all, no triple joins before a load begins: what was in flight
+-- has gone for good.
+abbrev pub NothingIsLeft : Type 0
+NothingIsLeft = (language : Language) (old : State) (commands : List Command) (transcript : List (List Line)) (new : State) →
+    Run language old commands transcript new → ((client : ℕ) → old.jobs client ≡ None) → list_any is_opening (all_lines transcript) ≡ false →
+    new.triples ≡ old.triples
+
+-- the greatest timestamp that was told doesn't fall, and is one
+abbrev pub TimestampsRise : Type 0
+TimestampsRise = (language : Language) (old : State) (commands : List Command) (transcript : List (List Line)) (new : State) →
+    Run language old commands transcript new → old.last < 2 ^ 48 → (old.last ≤ new.last) × (new.last < 2 ^ 48)
+
+-- ---- endings
+
+-- what is written of a run to its end settles the state that it leaves
+abbrev pub EndsAreTold : Type 0
+EndsAreTold = (language : Language) (start : State) (commands : List Command) (closing : List Line) (text : List ℕ) (end other : State) →
+    (a : Tells language start commands closing text end) (b : Tells language start commands closing text other) →
+    AllByRecursion IsClear (all_lines a.transcript ++ closing) → AllByRecursion IsClear (all_lines b.transcript ++ closing) → end ≡ other

@@ -1,3 +1,7 @@
+pub mod Ending
 pub mod Job
 pub mod Laws
 pub mod Line
+pub mod Reply
+pub mod Run
+pub mod State
