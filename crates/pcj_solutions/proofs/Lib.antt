@@ -1,0 +1,3 @@
+mod OneSet
+mod OrderLemmas
+mod SetLemmas

@@ -1,0 +1,4 @@
+pub mod Joining
+pub mod Order
+pub mod Sets
+pub mod Solutions
