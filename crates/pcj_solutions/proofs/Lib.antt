@@ -1,3 +1,7 @@
+mod Contained
+mod JoinLemmas
+mod KeyLemmas
+mod MergeLemmas
 mod OneSet
 mod OrderLemmas
 mod SetLemmas
