@@ -5,3 +5,4 @@ mod MergeLemmas
 mod OneSet
 mod OrderLemmas
 mod SetLemmas
+mod Solved
