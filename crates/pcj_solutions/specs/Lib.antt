@@ -1,0 +1,5 @@
+pub mod Joining
+pub mod Merging
+pub mod Order
+pub mod Sets
+pub mod Solutions
