@@ -1,7 +1,4 @@
-use crate::answer::Answer;
-use crate::argument::{number, size, word};
-use crate::term::printed_triple;
-use crate::unanswered::Unanswered;
+use pcj_case_lines::{Answer, Unanswered, number, size, word};
 use pcj_ntriples::{NtError, NtKind, NtRefusal, nt_number, read_document};
 use pcj_term::{Bytes, Items, Memory, Triple, TryClone};
 use std::alloc::Global;
@@ -17,16 +14,16 @@ fn read(
         Ok(triples) => Ok(Some(triples)),
         Err(NtRefusal::Memory) => Err(Unanswered::Memory),
         Err(NtRefusal::Refused(error)) => {
-            refused(alloc, out, error)?;
+            refused(out, error)?;
             Ok(None)
         }
     }
 }
 
-fn refused(alloc: Global, out: &mut Answer, error: NtError) -> Result<(), Unanswered> {
+fn refused(out: &mut Answer, error: NtError) -> Result<(), Unanswered> {
     out.word("refused")?;
-    out.number(alloc, error.line)?;
-    out.number(alloc, u64::from(nt_number(error.kind)))
+    out.number(error.line)?;
+    out.number(u64::from(nt_number(error.kind)))
 }
 
 /// `read_document LOAD TEXT`: `triples` and the printed terms of each, or `refused` with the line and the number of the kind.
@@ -39,15 +36,15 @@ pub(crate) fn read_case(
         return Err(Unanswered::NoCase);
     };
     match read(alloc, out, text.as_slice(), number(load)?)? {
-        Some(triples) => show(alloc, out, triples.as_slice()),
+        Some(triples) => show(out, triples.as_slice()),
         None => Ok(()),
     }
 }
 
-fn show(alloc: Global, out: &mut Answer, triples: &[Triple]) -> Result<(), Unanswered> {
+fn show(out: &mut Answer, triples: &[Triple]) -> Result<(), Unanswered> {
     out.word("triples")?;
     for triple in triples {
-        printed_triple(alloc, out, triple)?;
+        out.triple(triple)?;
     }
     Ok(())
 }
@@ -94,7 +91,7 @@ fn count(alloc: Global, out: &mut Answer, text: &Bytes, load: u64) -> Result<(),
     match read(alloc, out, text.as_slice(), load)? {
         Some(triples) => {
             out.word("triples")?;
-            out.number(alloc, triples.len() as u64)
+            out.number(triples.len() as u64)
         }
         None => Ok(()),
     }
@@ -149,15 +146,11 @@ fn kind(field: &Bytes) -> Result<NtKind, Unanswered> {
 }
 
 /// `nt_number KIND`: the kind's number.
-pub(crate) fn number_case(
-    alloc: Global,
-    out: &mut Answer,
-    arguments: &[Bytes],
-) -> Result<(), Unanswered> {
+pub(crate) fn number_case(out: &mut Answer, arguments: &[Bytes]) -> Result<(), Unanswered> {
     let [field] = arguments else {
         return Err(Unanswered::NoCase);
     };
-    out.number(alloc, u64::from(nt_number(kind(field)?)))
+    out.number(u64::from(nt_number(kind(field)?)))
 }
 
 /// `copy_refusal LINE KIND`: whether the copy of the refusal, of copies of its parts, equals the refusal; and the copy.
@@ -181,7 +174,7 @@ pub(crate) fn copy_refusal_case(
     let refusal = refusal.try_clone(alloc)?;
     out.flag(refusal == NtRefusal::Refused(error))?;
     match refusal {
-        NtRefusal::Refused(copy) => refused(alloc, out, copy),
+        NtRefusal::Refused(copy) => refused(out, copy),
         NtRefusal::Memory => out.word("memory"),
     }
 }

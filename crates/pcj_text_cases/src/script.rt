@@ -1,23 +1,17 @@
-use crate::answer::Answer;
-use crate::argument::{size, word};
-use crate::unanswered::Unanswered;
+use pcj_case_lines::{Answer, Unanswered, size, word};
 use pcj_script::{Command, Crashed, Front, ScriptError, next_command, script_number};
 use pcj_term::{Bytes, TryClone};
 use std::alloc::Global;
 
 /// `script TEXT`: the commands of a whole script, and then `end`, or `refused LINE KIND`.
-pub(crate) fn script_case(
-    alloc: Global,
-    out: &mut Answer,
-    arguments: &[Bytes],
-) -> Result<(), Unanswered> {
+pub(crate) fn script_case(out: &mut Answer, arguments: &[Bytes]) -> Result<(), Unanswered> {
     match arguments {
-        [text] => script(alloc, out, text.as_slice()),
+        [text] => script(out, text.as_slice()),
         _ => Err(Unanswered::NoCase),
     }
 }
 
-fn script(alloc: Global, out: &mut Answer, text: &[u8]) -> Result<(), Unanswered> {
+fn script(out: &mut Answer, text: &[u8]) -> Result<(), Unanswered> {
     let mut at = 0;
     let mut line: u64 = 1;
     loop {
@@ -28,7 +22,7 @@ fn script(alloc: Global, out: &mut Answer, text: &[u8]) -> Result<(), Unanswered
                 used,
                 lines,
             } => {
-                command(alloc, out, found)?;
+                command(out, found)?;
                 at += used;
                 line += lines;
             }
@@ -36,7 +30,7 @@ fn script(alloc: Global, out: &mut Answer, text: &[u8]) -> Result<(), Unanswered
                 at += used;
                 line += 1;
             }
-            Front::Refused(error) => return refused(alloc, out, error),
+            Front::Refused(error) => return refused(out, error),
             Front::More | Front::End => return out.word("end"),
         }
     }
@@ -44,18 +38,14 @@ fn script(alloc: Global, out: &mut Answer, text: &[u8]) -> Result<(), Unanswered
 
 /// `next_command LINE ENDED TEXT`, where ENDED is `ended` or `open`: `got USED LINES` and the command, `skipped USED`,
 /// `more`, `refused LINE KIND`, or `end`.
-pub(crate) fn next_case(
-    alloc: Global,
-    out: &mut Answer,
-    arguments: &[Bytes],
-) -> Result<(), Unanswered> {
+pub(crate) fn next_case(out: &mut Answer, arguments: &[Bytes]) -> Result<(), Unanswered> {
     let [line, ended, text] = arguments else {
         return Err(Unanswered::NoCase);
     };
     let found = front(text, size(line)?, ended)?;
-    show(alloc, out, found)?;
+    show(out, found)?;
     match found {
-        Front::Got { command: found, .. } => command(alloc, out, found),
+        Front::Got { command: found, .. } => command(out, found),
         _ => Ok(()),
     }
 }
@@ -75,7 +65,7 @@ pub(crate) fn long_case(
         text.extend_from_slice(part.as_slice())?;
     }
     text.extend_from_slice(after.as_slice())?;
-    show(alloc, out, front(&text, 1, ended)?)
+    show(out, front(&text, 1, ended)?)
 }
 
 /// What stands at the front, for a number that a script's line may have.
@@ -88,45 +78,45 @@ fn front<'a>(text: &'a Bytes, line: usize, ended: &Bytes) -> Result<Front<'a>, U
     }
 }
 
-fn show(alloc: Global, out: &mut Answer, front: Front<'_>) -> Result<(), Unanswered> {
+fn show(out: &mut Answer, front: Front<'_>) -> Result<(), Unanswered> {
     match front {
         Front::Got { used, lines, .. } => {
             out.word("got")?;
-            out.number(alloc, used as u64)?;
-            out.number(alloc, lines)
+            out.number(used as u64)?;
+            out.number(lines)
         }
         Front::Skipped { used } => {
             out.word("skipped")?;
-            out.number(alloc, used as u64)
+            out.number(used as u64)
         }
         Front::More => out.word("more"),
-        Front::Refused(error) => refused(alloc, out, error),
+        Front::Refused(error) => refused(out, error),
         Front::End => out.word("end"),
     }
 }
 
-fn refused(alloc: Global, out: &mut Answer, error: ScriptError) -> Result<(), Unanswered> {
+fn refused(out: &mut Answer, error: ScriptError) -> Result<(), Unanswered> {
     out.word("refused")?;
-    out.number(alloc, error.line)?;
-    out.number(alloc, u64::from(script_number(error.kind)))
+    out.number(error.line)?;
+    out.number(u64::from(script_number(error.kind)))
 }
 
-fn command(alloc: Global, out: &mut Answer, command: Command<'_>) -> Result<(), Unanswered> {
+fn command(out: &mut Answer, command: Command<'_>) -> Result<(), Unanswered> {
     match command {
         Command::Load { client, document } => {
-            numbered(alloc, out, "load", client)?;
+            numbered(out, "load", client)?;
             out.bytes(document)
         }
         Command::Register { client, name, text } => {
-            numbered(alloc, out, "register", client)?;
+            numbered(out, "register", client)?;
             out.bytes(name)?;
             out.bytes(text)
         }
         Command::StepClient { client, count } => {
-            numbered(alloc, out, "step", client)?;
-            out.number(alloc, u64::from(count))
+            numbered(out, "step", client)?;
+            out.number(u64::from(count))
         }
-        Command::Crash(crashed) => crash(alloc, out, crashed),
+        Command::Crash(crashed) => crash(out, crashed),
         Command::Status => out.word("status"),
         Command::Answers(name) => {
             out.word("answers")?;
@@ -135,15 +125,15 @@ fn command(alloc: Global, out: &mut Answer, command: Command<'_>) -> Result<(), 
     }
 }
 
-fn crash(alloc: Global, out: &mut Answer, crashed: Crashed) -> Result<(), Unanswered> {
+fn crash(out: &mut Answer, crashed: Crashed) -> Result<(), Unanswered> {
     match crashed {
-        Crashed::Client(client) => numbered(alloc, out, "crash", client),
+        Crashed::Client(client) => numbered(out, "crash", client),
         Crashed::All => out.word("crash\tall"),
         Crashed::Oracle => out.word("crash\toracle"),
     }
 }
 
-fn numbered(alloc: Global, out: &mut Answer, word: &str, client: u8) -> Result<(), Unanswered> {
+fn numbered(out: &mut Answer, word: &str, client: u8) -> Result<(), Unanswered> {
     out.word(word)?;
-    out.number(alloc, u64::from(client))
+    out.number(u64::from(client))
 }

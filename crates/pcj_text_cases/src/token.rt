@@ -2,20 +2,13 @@ ghost use Rattle.std.specs.Prelude.{◌≤◌, length, drop};
 ghost use Rattle.std.specs.Bool.{OnTrue};
 ghost use Rattle.std.specs.Str.{IsUtf8};
 
-use crate::answer::Answer;
-use crate::argument::size;
-use crate::unanswered::Unanswered;
+use pcj_case_lines::{Answer, Unanswered, size};
 use pcj_lex::{LexRefusal, Token, TokenKind, next_token};
 use pcj_term::{Bytes, is_utf8};
-use std::alloc::Global;
 
 /// `next_token FROM TEXT`: the kind, the place and the source of the token that follows the byte, `end`, or `none` and
 /// the place where no token starts.
-pub(crate) fn next_case(
-    alloc: Global,
-    out: &mut Answer,
-    arguments: &[Bytes],
-) -> Result<(), Unanswered> {
+pub(crate) fn next_case(out: &mut Answer, arguments: &[Bytes]) -> Result<(), Unanswered> {
     let [from, text] = arguments else {
         return Err(Unanswered::NoCase);
     };
@@ -25,11 +18,11 @@ pub(crate) fn next_case(
         return Err(Unanswered::NoCase);
     }
     match next_token(text, from) {
-        Ok(Some(token)) => show(alloc, out, token),
+        Ok(Some(token)) => show(out, token),
         Ok(None) => out.word("end"),
         Err(LexRefusal::At(at)) => {
             out.word("none")?;
-            out.number(alloc, at as u64)
+            out.number(at as u64)
         }
     }
 }
@@ -46,9 +39,9 @@ fn is_text_from(text: &[u8], from: usize) -> bool
     is_utf8(left)
 }
 
-fn show(alloc: Global, out: &mut Answer, token: Token<'_>) -> Result<(), Unanswered> {
+fn show(out: &mut Answer, token: Token<'_>) -> Result<(), Unanswered> {
     out.word(kind_word(token.kind))?;
-    out.number(alloc, token.at as u64)?;
+    out.number(token.at as u64)?;
     out.bytes(token.source)
 }
 

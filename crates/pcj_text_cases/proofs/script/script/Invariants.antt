@@ -1,5 +1,5 @@
 use Rattle.std.proofs.Common.{◌+◌, ◌-◌, ◌≤◌, length}
-use Rattle.pcj_cases.proofs.script.script.Given as goal
+use Rattle.pcj_text_cases.proofs.script.script.Given as goal
 
 abbrev pub invariant-loop-found : goal.invariant-loop-found
 invariant-loop-found l = (l.at ≤ length l.text) × (l.line ≤ l.at + 1)

@@ -1,6 +1,5 @@
-use crate::answer::Answer;
-use crate::argument::{number, size, small, word};
-use crate::unanswered::Unanswered;
+use crate::small::small;
+use pcj_case_lines::{Answer, Unanswered, number, size, word};
 use pcj_model::{Event, Line, push_line, push_lines};
 use pcj_script::{ScriptError, ScriptKind};
 use pcj_term::{Bytes, TryClone};

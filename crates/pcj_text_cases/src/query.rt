@@ -1,8 +1,5 @@
-use crate::answer::Answer;
-use crate::argument::{size, word};
-use crate::term::show_printed;
-use crate::unanswered::Unanswered;
 use pcj_algebra::{Aggregate, Pattern, Query, Shape, Slot, TriplePattern};
+use pcj_case_lines::{Answer, Unanswered, size, word};
 use pcj_expr::{Compare, Expr, Operand};
 use pcj_sparql::{QueryError, QueryKind, QueryRefusal, query_number, read_query};
 use pcj_term::{Bytes, TryClone};
@@ -46,15 +43,15 @@ fn push_blanks(text: &mut Bytes, count: usize) -> Result<(), Unanswered> {
 fn read(alloc: Global, out: &mut Answer, text: &[u8]) -> Result<(), Unanswered> {
     match read_query(alloc, text) {
         Ok(query) => show_query(alloc, out, &query),
-        Err(QueryRefusal::Refused(error)) => show_refused(alloc, out, error),
+        Err(QueryRefusal::Refused(error)) => show_refused(out, error),
         Err(QueryRefusal::Memory) => Err(Unanswered::Memory),
     }
 }
 
-fn show_refused(alloc: Global, out: &mut Answer, error: QueryError) -> Result<(), Unanswered> {
+fn show_refused(out: &mut Answer, error: QueryError) -> Result<(), Unanswered> {
     out.word("refused")?;
-    out.number(alloc, error.at)?;
-    out.number(alloc, u64::from(query_number(error.kind)))
+    out.number(error.at)?;
+    out.number(u64::from(query_number(error.kind)))
 }
 
 fn show_query(alloc: Global, out: &mut Answer, query: &Query) -> Result<(), Unanswered> {
@@ -77,17 +74,22 @@ fn show_shape(out: &mut Answer, shape: &Shape) -> Result<(), Unanswered> {
             out.word("group")?;
             show_names(out, keys.as_slice())?;
             out.word(aggregate_word(*aggregate))?;
-            out.variable(var.as_slice())?;
-            out.variable(as_name.as_slice())
+            show_variable(out, var.as_slice())?;
+            show_variable(out, as_name.as_slice())
         }
     }
 }
 
 fn show_names(out: &mut Answer, names: &[Bytes]) -> Result<(), Unanswered> {
     for name in names {
-        out.variable(name.as_slice())?;
+        show_variable(out, name.as_slice())?;
     }
     Ok(())
+}
+
+/// Adds a variable by its name.
+fn show_variable(out: &mut Answer, name: &[u8]) -> Result<(), Unanswered> {
+    out.marked("?", name)
 }
 
 fn aggregate_word(aggregate: Aggregate) -> &'static str {
@@ -101,7 +103,7 @@ fn aggregate_word(aggregate: Aggregate) -> &'static str {
 
 fn show_pattern(alloc: Global, out: &mut Answer, pattern: &Pattern) -> Result<(), Unanswered> {
     match pattern {
-        Pattern::Triple(triple) => show_triple(alloc, out, triple),
+        Pattern::Triple(triple) => show_triple(out, triple),
         Pattern::Join(left, right) => {
             out.word("join")?;
             show_pattern(alloc, out, left.get())?;
@@ -120,17 +122,17 @@ fn show_pattern(alloc: Global, out: &mut Answer, pattern: &Pattern) -> Result<()
     }
 }
 
-fn show_triple(alloc: Global, out: &mut Answer, triple: &TriplePattern) -> Result<(), Unanswered> {
+fn show_triple(out: &mut Answer, triple: &TriplePattern) -> Result<(), Unanswered> {
     out.word("triple")?;
-    show_slot(alloc, out, &triple.subject)?;
-    show_slot(alloc, out, &triple.predicate)?;
-    show_slot(alloc, out, &triple.object)
+    show_slot(out, &triple.subject)?;
+    show_slot(out, &triple.predicate)?;
+    show_slot(out, &triple.object)
 }
 
-fn show_slot(alloc: Global, out: &mut Answer, slot: &Slot) -> Result<(), Unanswered> {
+fn show_slot(out: &mut Answer, slot: &Slot) -> Result<(), Unanswered> {
     match slot {
-        Slot::Var(name) => out.variable(name.as_slice()),
-        Slot::Value(term) => show_printed(alloc, out, term),
+        Slot::Var(name) => show_variable(out, name.as_slice()),
+        Slot::Value(term) => out.term(term),
     }
 }
 
@@ -152,8 +154,8 @@ fn show_condition(alloc: Global, out: &mut Answer, condition: &Expr) -> Result<(
         }
         Expr::Test(compare, left, right) => {
             out.word(compare_word(*compare))?;
-            show_operand(alloc, out, left)?;
-            show_operand(alloc, out, right)
+            show_operand(out, left)?;
+            show_operand(out, right)
         }
     }
 }
@@ -169,24 +171,20 @@ fn compare_word(compare: Compare) -> &'static str {
     }
 }
 
-fn show_operand(alloc: Global, out: &mut Answer, operand: &Operand) -> Result<(), Unanswered> {
+fn show_operand(out: &mut Answer, operand: &Operand) -> Result<(), Unanswered> {
     match operand {
-        Operand::Var(name) => out.variable(name.as_slice()),
-        Operand::Value(term) => show_printed(alloc, out, term),
+        Operand::Var(name) => show_variable(out, name.as_slice()),
+        Operand::Value(term) => out.term(term),
     }
 }
 
 /// `query_number KIND`: the number of the kind.
-pub(crate) fn number_case(
-    alloc: Global,
-    out: &mut Answer,
-    arguments: &[Bytes],
-) -> Result<(), Unanswered> {
+pub(crate) fn number_case(out: &mut Answer, arguments: &[Bytes]) -> Result<(), Unanswered> {
     let [kind] = arguments else {
         return Err(Unanswered::NoCase);
     };
     let kind = spelled_kind(word(kind)).ok_or(Unanswered::NoCase)?;
-    out.number(alloc, u64::from(query_number(kind)))
+    out.number(u64::from(query_number(kind)))
 }
 
 fn spelled_kind(word: &str) -> Option<QueryKind> {

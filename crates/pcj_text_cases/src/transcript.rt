@@ -1,6 +1,5 @@
-use crate::answer::Answer;
-use crate::argument::{number, size, small};
-use crate::unanswered::Unanswered;
+use crate::small::small;
+use pcj_case_lines::{Answer, Unanswered, number, size};
 use pcj_lines::{
     push_committed, push_loaded, push_no_query, push_refused, push_refused_line, push_registered,
     push_row, push_rows, push_spent, push_taken, push_usage,

@@ -1,8 +1,7 @@
 ghost use Rattle.std.specs.Bool.{OnTrue};
 ghost use Rattle.std.specs.Str.{IsUtf8};
 
-use crate::answer::Answer;
-use crate::unanswered::Unanswered;
+use pcj_case_lines::{Answer, Unanswered};
 use pcj_grammar::{Fault, FaultKind, Refusal, read_grammar};
 use pcj_term::{Bytes, is_utf8};
 use std::alloc::Global;
@@ -23,9 +22,9 @@ pub(crate) fn read_case(
     match read_grammar(alloc, text) {
         Ok(lexemes) => {
             out.word("tokens")?;
-            out.number(alloc, lexemes.len() as u64)
+            out.number(lexemes.len() as u64)
         }
-        Err(Refusal::Refused(fault)) => show_fault(alloc, out, fault),
+        Err(Refusal::Refused(fault)) => show_fault(out, fault),
         Err(Refusal::Memory) => Err(Unanswered::Memory),
     }
 }
@@ -36,9 +35,9 @@ fn is_text(text: &[u8]) -> bool
     is_utf8(text)
 }
 
-fn show_fault(alloc: Global, out: &mut Answer, fault: Fault) -> Result<(), Unanswered> {
+fn show_fault(out: &mut Answer, fault: Fault) -> Result<(), Unanswered> {
     out.word("fault")?;
-    out.number(alloc, fault.at as u64)?;
+    out.number(fault.at as u64)?;
     out.word(match fault.kind {
         FaultKind::Syntax => "syntax",
         FaultKind::OutOfProfile => "out_of_profile",
