@@ -1,31 +1,11 @@
-use crate::unanswered::Unanswered;
+use pcj_case_lines::{Unanswered, word};
 use pcj_term::{Bytes, Items, Term, Triple, TryClone, read_term};
 use std::alloc::Global;
 use std::str::FromStr;
 
-/// The word that a field is, or an empty one where it isn't UTF-8.
-pub(crate) fn word(field: &Bytes) -> &str {
-    str::from_utf8(field.as_slice()).unwrap_or("")
-}
-
-/// The number that a field writes.
-pub(crate) fn number(field: &Bytes) -> Result<u64, Unanswered> {
-    word(field).parse::<u64>().ok().ok_or(Unanswered::NoCase)
-}
-
-/// The length or place that a field writes.
-pub(crate) fn size(field: &Bytes) -> Result<usize, Unanswered> {
-    word(field).parse::<usize>().ok().ok_or(Unanswered::NoCase)
-}
-
 /// The number of a node that a field writes.
 pub(crate) fn node(field: &Bytes) -> Result<u16, Unanswered> {
     word(field).parse::<u16>().ok().ok_or(Unanswered::NoCase)
-}
-
-/// The number below 256 that a field writes.
-pub(crate) fn small(field: &Bytes) -> Result<u8, Unanswered> {
-    word(field).parse::<u8>().ok().ok_or(Unanswered::NoCase)
 }
 
 /// The one byte that a field is.

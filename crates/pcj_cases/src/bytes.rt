@@ -1,6 +1,5 @@
-use crate::answer::Answer;
-use crate::argument::{byte, size};
-use crate::unanswered::Unanswered;
+use crate::argument::byte;
+use pcj_case_lines::{Answer, Unanswered, size};
 use pcj_term::{Bytes, TryClone};
 use std::alloc::Global;
 use std::cmp::Ordering;
@@ -23,7 +22,7 @@ fn one_list(alloc: Global, out: &mut Answer, call: &str, bytes: &Bytes) -> Resul
     match call {
         "bytes_copy" => copied(alloc, out, bytes),
         "bytes_is_empty" => out.flag(bytes.is_empty()),
-        "bytes_len" => out.number(alloc, bytes.len() as u64),
+        "bytes_len" => out.number(bytes.len() as u64),
         "bytes_moved" => moved(alloc, out, bytes),
         _ => Err(Unanswered::NoCase),
     }
@@ -52,7 +51,7 @@ fn two_lists(
         "bytes_cmp" => out.word(order_word(bytes.cmp(other))),
         "bytes_eq" => out.flag(bytes == other),
         "bytes_extend" => extended(alloc, out, bytes, other),
-        "bytes_get" => item(alloc, out, bytes, size(other)?),
+        "bytes_get" => item(out, bytes, size(other)?),
         "bytes_push" => pushed(alloc, out, bytes, byte(other)?),
         _ => Err(Unanswered::NoCase),
     }
@@ -77,9 +76,9 @@ fn extended(
     out.bytes(list.as_slice())
 }
 
-fn item(alloc: Global, out: &mut Answer, bytes: &Bytes, at: usize) -> Result<(), Unanswered> {
+fn item(out: &mut Answer, bytes: &Bytes, at: usize) -> Result<(), Unanswered> {
     match bytes.get(at) {
-        Some(byte) => out.number(alloc, u64::from(byte)),
+        Some(byte) => out.number(u64::from(byte)),
         None => out.word("none"),
     }
 }

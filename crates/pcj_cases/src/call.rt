@@ -1,9 +1,5 @@
-use crate::answer::Answer;
-use crate::unanswered::Unanswered;
-use crate::{
-    act, bytes, document, grammar, items, key, name, query, range, row, said, script, term, text,
-    token, transcript,
-};
+use crate::{act, bytes, items, key, name, range, row, term, text};
+use pcj_case_lines::{Answer, Unanswered};
 use pcj_term::Bytes;
 use std::alloc::Global;
 
@@ -18,25 +14,11 @@ pub(crate) fn answer(
         Some(("is", _)) => text::class_case(out, call, arguments),
         Some(("bytes", _)) => bytes::bytes_case(alloc, out, call, arguments),
         Some(("items", _)) => items::items_case(alloc, out, call, arguments),
-        Some(("push", _)) => pushing(alloc, out, call, arguments),
         Some(("copy", _)) => copying(alloc, out, call, arguments),
         Some(("read", _)) => reading(alloc, out, call, arguments),
         Some((_, "range")) => range::range_case(alloc, out, call, arguments),
         Some((_, "at")) => row::read_case(alloc, out, call, arguments),
         _ => making(alloc, out, call, arguments),
-    }
-}
-
-fn pushing(
-    alloc: Global,
-    out: &mut Answer,
-    call: &str,
-    arguments: &[Bytes],
-) -> Result<(), Unanswered> {
-    match call {
-        "push_said" | "push_twice" => said::said_case(alloc, out, call, arguments),
-        "push_term" => term::push_case(alloc, out, arguments),
-        _ => transcript::line_case(alloc, out, call, arguments),
     }
 }
 
@@ -53,7 +35,6 @@ fn copying(
         "copy_order" => name::copy_order_case(alloc, out, arguments),
         "copy_prewrite" => act::copy_prewrite_case(alloc, out, arguments),
         "copy_range" => range::copy_case(alloc, out, arguments),
-        "copy_refusal" => document::copy_refusal_case(alloc, out, arguments),
         "copy_term" => term::term_case(alloc, out, call, arguments),
         "copy_triple" => term::triple_case(alloc, out, call, arguments),
         _ => Err(Unanswered::NoCase),
@@ -67,13 +48,7 @@ fn reading(
     arguments: &[Bytes],
 ) -> Result<(), Unanswered> {
     match call {
-        "read_document" => document::read_case(alloc, out, arguments),
-        "read_grammar" => grammar::read_case(alloc, out, arguments),
         "read_key" => name::read_case(alloc, out, arguments),
-        "read_long" => document::read_long_case(alloc, out, arguments),
-        "read_many" => document::read_many_case(alloc, out, arguments),
-        "read_padded" => query::padded_case(alloc, out, arguments),
-        "read_query" => query::read_case(alloc, out, arguments),
         "read_term" => term::read_case(alloc, out, arguments),
         _ => Err(Unanswered::NoCase),
     }
@@ -90,16 +65,11 @@ fn making(
         "commit_row" => act::commit_case(alloc, out, arguments),
         "integer_of" | "print_term" => term::term_case(alloc, out, call, arguments),
         "join_parts" => key::join_case(alloc, out, arguments),
-        "next_command" => script::next_case(alloc, out, arguments),
-        "next_long" => script::long_case(alloc, out, arguments),
-        "next_token" => token::next_case(alloc, out, arguments),
-        "nt_number" => document::number_case(alloc, out, arguments),
         "prefix_end" => key::prefix_case(alloc, out, arguments),
+        "push_term" => term::push_case(alloc, out, arguments),
         "prewrite" => act::prewrite_case(alloc, out, arguments),
-        "query_number" => query::number_case(alloc, out, arguments),
         "roll_back_row" => act::roll_back_case(alloc, out, arguments),
         "roll_forward_row" => act::roll_forward_case(alloc, out, arguments),
-        "script" => script::script_case(alloc, out, arguments),
         "split_parts" => key::split_case(alloc, out, arguments),
         "triple_key" => name::triple_key_case(alloc, out, arguments),
         "triple_rows" => term::triple_case(alloc, out, call, arguments),

@@ -1,6 +1,4 @@
-use crate::answer::Answer;
-use crate::argument::{number, size};
-use crate::unanswered::Unanswered;
+use pcj_case_lines::{Answer, Unanswered, number, size};
 use pcj_term::{Bytes, Items, Memory, TryClone};
 use std::alloc::Global;
 
@@ -29,10 +27,10 @@ fn numbers(alloc: Global, fields: &[Bytes]) -> Result<Items<u64>, Unanswered> {
     Ok(list)
 }
 
-fn show(alloc: Global, out: &mut Answer, numbers: &[u64]) -> Result<(), Unanswered> {
+fn show(out: &mut Answer, numbers: &[u64]) -> Result<(), Unanswered> {
     out.word("items")?;
     for number in numbers {
-        out.number(alloc, *number)?;
+        out.number(*number)?;
     }
     Ok(())
 }
@@ -51,33 +49,33 @@ fn answer_of(
     match call {
         "items_copy" => copied(alloc, out, list),
         "items_is_empty" => out.flag(list.is_empty()),
-        "items_len" => out.number(alloc, list.len() as u64),
+        "items_len" => out.number(list.len() as u64),
         "items_moved" => moved(alloc, out, list),
-        "items_push" => show(alloc, out, list.as_slice()),
+        "items_push" => show(out, list.as_slice()),
         _ => Err(Unanswered::NoCase),
     }
 }
 
 fn copied(alloc: Global, out: &mut Answer, list: &Items<u64>) -> Result<(), Unanswered> {
     let copy = list.try_clone(alloc)?;
-    show(alloc, out, copy.as_slice())
+    show(out, copy.as_slice())
 }
 
 /// The numbers moved into a vector and back.
 fn moved(alloc: Global, out: &mut Answer, list: &Items<u64>) -> Result<(), Unanswered> {
     let vector = list.try_clone(alloc)?.into_vec();
     let list = Items::from_vec(vector);
-    show(alloc, out, list.as_slice())
+    show(out, list.as_slice())
 }
 
 fn item(alloc: Global, out: &mut Answer, at: usize, fields: &[Bytes]) -> Result<(), Unanswered> {
     let list = numbers(alloc, fields)?;
-    show_number(alloc, out, list.get(at).copied())
+    show_number(out, list.get(at).copied())
 }
 
-fn show_number(alloc: Global, out: &mut Answer, number: Option<u64>) -> Result<(), Unanswered> {
+fn show_number(out: &mut Answer, number: Option<u64>) -> Result<(), Unanswered> {
     match number {
-        Some(number) => out.number(alloc, number),
+        Some(number) => out.number(number),
         None => out.word("none"),
     }
 }
@@ -91,7 +89,7 @@ fn inserted(
 ) -> Result<(), Unanswered> {
     let mut list = numbers(alloc, fields)?;
     insert(&mut list, at, item)?;
-    show(alloc, out, list.as_slice())
+    show(out, list.as_slice())
 }
 
 fn insert(list: &mut Items<u64>, at: usize, item: u64) -> Result<(), Unanswered> {
@@ -113,7 +111,7 @@ pub(crate) fn copy_option_case(
         [field] => Some(number(field)?),
         _ => return Err(Unanswered::NoCase),
     };
-    show_number(alloc, out, option.try_clone(alloc)?)
+    show_number(out, option.try_clone(alloc)?)
 }
 
 /// `copy_memory`: whether the copy of the error equals it.

@@ -1,5 +1,4 @@
-use crate::answer::Answer;
-use crate::unanswered::Unanswered;
+use pcj_case_lines::{Answer, Unanswered};
 use pcj_key::{join_parts, prefix_end, split_parts};
 use pcj_term::Bytes;
 use std::alloc::Global;

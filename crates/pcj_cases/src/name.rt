@@ -1,8 +1,6 @@
-use crate::answer::Answer;
-use crate::argument::{list, node, number, triple, word};
+use crate::argument::{list, node, triple};
 use crate::key::each;
-use crate::term::printed_triple;
-use crate::unanswered::Unanswered;
+use pcj_case_lines::{Answer, Unanswered, number, word};
 use pcj_encode::{KeyName, Order, TaskName, read_key, triple_key, write_key};
 use pcj_rowtables::triple_rows;
 use pcj_term::{Bytes, Items, Memory, Triple, TryClone};
@@ -105,99 +103,97 @@ fn order_word(order: Order) -> &'static str {
 }
 
 /// Adds the fields that spell a name.
-fn spell_name(alloc: Global, out: &mut Answer, name: &KeyName) -> Result<(), Unanswered> {
+fn spell_name(out: &mut Answer, name: &KeyName) -> Result<(), Unanswered> {
     match name {
         KeyName::Clock => out.word("clock"),
         KeyName::Triple { order, triple } => {
             out.word("triple")?;
             out.word(order_word(*order))?;
-            printed_triple(alloc, out, triple)
+            out.triple(triple)
         }
         KeyName::Node {
             registration,
             node,
             cells,
-        } => numbered(alloc, out, "node", *registration, Some(*node), cells),
+        } => numbered(out, "node", *registration, Some(*node), cells),
         KeyName::Group {
             registration,
             cells,
-        } => numbered(alloc, out, "group", *registration, None, cells),
+        } => numbered(out, "group", *registration, None, cells),
         KeyName::Member {
             registration,
             cells,
             term,
         } => {
-            numbered(alloc, out, "member", *registration, None, cells)?;
+            numbered(out, "member", *registration, None, cells)?;
             out.bytes(term.as_slice())
         }
         KeyName::Registration(registration) => {
             out.word("registration")?;
-            out.number(alloc, *registration)
+            out.number(*registration)
         }
         KeyName::Name(name) => {
             out.word("name")?;
             out.bytes(name.as_slice())
         }
         KeyName::Pattern { registration, node } => {
-            without_cells(alloc, out, "pattern", *registration, Some(*node))
+            without_cells(out, "pattern", *registration, Some(*node))
         }
         KeyName::Task(task) => {
             out.word("task")?;
-            spell_task(alloc, out, task)
+            spell_task(out, task)
         }
         KeyName::Export {
             registration,
             cells,
-        } => numbered(alloc, out, "export", *registration, None, cells),
+        } => numbered(out, "export", *registration, None, cells),
     }
 }
 
-fn spell_task(alloc: Global, out: &mut Answer, task: &TaskName) -> Result<(), Unanswered> {
+fn spell_task(out: &mut Answer, task: &TaskName) -> Result<(), Unanswered> {
     match task {
         TaskName::Triple(triple) => {
             out.word("triple")?;
-            printed_triple(alloc, out, triple)
+            out.triple(triple)
         }
         TaskName::Backfill { registration, node } => {
-            without_cells(alloc, out, "backfill", *registration, Some(*node))
+            without_cells(out, "backfill", *registration, Some(*node))
         }
         TaskName::Row {
             registration,
             node,
             cells,
-        } => numbered(alloc, out, "row", *registration, Some(*node), cells),
+        } => numbered(out, "row", *registration, Some(*node), cells),
         TaskName::Export {
             registration,
             cells,
-        } => numbered(alloc, out, "export", *registration, None, cells),
+        } => numbered(out, "export", *registration, None, cells),
     }
 }
 
 /// Adds a kind, its numbers and its cells.
 fn numbered(
-    alloc: Global,
     out: &mut Answer,
     kind: &str,
     registration: u64,
     node: Option<u16>,
     cells: &Items<Bytes>,
 ) -> Result<(), Unanswered> {
-    without_cells(alloc, out, kind, registration, node)?;
+    without_cells(out, kind, registration, node)?;
     each(out, cells.as_slice())
 }
 
 /// Adds a kind and its numbers.
 fn without_cells(
-    alloc: Global,
     out: &mut Answer,
     kind: &str,
     registration: u64,
     node: Option<u16>,
 ) -> Result<(), Unanswered> {
     out.word(kind)?;
-    out.number(alloc, registration)?;
+    out.number(registration)?;
     match node {
-        Some(node) => out.number(alloc, u64::from(node)),
+        Some(node) => out.number(u64::from(node)),
         None => Ok(()),
     }
 }
@@ -228,7 +224,7 @@ fn answer_name(
 
 fn show_copy(alloc: Global, out: &mut Answer, name: &KeyName) -> Result<(), Unanswered> {
     let copy = name.try_clone(alloc)?;
-    spell_name(alloc, out, &copy)
+    spell_name(out, &copy)
 }
 
 /// Adds a key that was made.
@@ -247,13 +243,13 @@ pub(crate) fn read_case(
         return Err(Unanswered::NoCase);
     };
     let name = read_key(alloc, key.as_slice())?;
-    show_name(alloc, out, name.as_ref())
+    show_name(out, name.as_ref())
 }
 
 /// Adds a name, or `none`.
-fn show_name(alloc: Global, out: &mut Answer, name: Option<&KeyName>) -> Result<(), Unanswered> {
+fn show_name(out: &mut Answer, name: Option<&KeyName>) -> Result<(), Unanswered> {
     match name {
-        Some(name) => spell_name(alloc, out, name),
+        Some(name) => spell_name(out, name),
         None => out.word("none"),
     }
 }

@@ -1,6 +1,5 @@
-use crate::answer::Answer;
-use crate::argument::{node, number};
-use crate::unanswered::Unanswered;
+use crate::argument::node;
+use pcj_case_lines::{Answer, Unanswered, number};
 use pcj_encode::{
     KeyRange, export_range, group_range, node_range, pattern_range, registration_range, task_range,
     triple_range,

@@ -1,7 +1,6 @@
 use crate::act::{lock, show_lock, show_version};
-use crate::answer::Answer;
-use crate::argument::{number, value, word};
-use crate::unanswered::Unanswered;
+use crate::argument::value;
+use pcj_case_lines::{Answer, Unanswered, number, word};
 use pcj_mvcc::{commit_of, lock_at, version_at};
 use pcj_table::{Row, Update, Version};
 use pcj_term::Bytes;
@@ -58,46 +57,40 @@ pub(crate) fn read_case(
     };
     let at = number(at)?;
     let row = row(alloc, fields)?;
-    show_read(alloc, out, call, &row, at)
+    show_read(out, call, &row, at)
 }
 
-fn show_read(
-    alloc: Global,
-    out: &mut Answer,
-    call: &str,
-    row: &Row,
-    at: u64,
-) -> Result<(), Unanswered> {
+fn show_read(out: &mut Answer, call: &str, row: &Row, at: u64) -> Result<(), Unanswered> {
     match call {
-        "commit_of" => show_commit(alloc, out, commit_of(row, at)),
-        "lock_at" => show_lock_at(alloc, out, row, at),
-        "version_at" => show_version_at(alloc, out, row, at),
+        "commit_of" => show_commit(out, commit_of(row, at)),
+        "lock_at" => show_lock_at(out, row, at),
+        "version_at" => show_version_at(out, row, at),
         _ => Err(Unanswered::NoCase),
     }
 }
 
-fn show_commit(alloc: Global, out: &mut Answer, commit: Option<u64>) -> Result<(), Unanswered> {
+fn show_commit(out: &mut Answer, commit: Option<u64>) -> Result<(), Unanswered> {
     match commit {
-        Some(commit) => out.number(alloc, commit),
+        Some(commit) => out.number(commit),
         None => out.word("none"),
     }
 }
 
-fn show_lock_at(alloc: Global, out: &mut Answer, row: &Row, at: u64) -> Result<(), Unanswered> {
+fn show_lock_at(out: &mut Answer, row: &Row, at: u64) -> Result<(), Unanswered> {
     match lock_at(row, at) {
         Some(lock) => {
             out.word("lock")?;
-            show_lock(alloc, out, lock)
+            show_lock(out, lock)
         }
         None => out.word("none"),
     }
 }
 
-fn show_version_at(alloc: Global, out: &mut Answer, row: &Row, at: u64) -> Result<(), Unanswered> {
+fn show_version_at(out: &mut Answer, row: &Row, at: u64) -> Result<(), Unanswered> {
     match version_at(row, at) {
         Some(version) => {
             out.word("version")?;
-            show_version(alloc, out, version)
+            show_version(out, version)
         }
         None => out.word("none"),
     }

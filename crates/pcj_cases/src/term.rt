@@ -1,7 +1,6 @@
-use crate::answer::Answer;
-use crate::argument::{number, triple, word};
+use crate::argument::triple;
 use crate::name::show_rows;
-use crate::unanswered::Unanswered;
+use pcj_case_lines::{Answer, Unanswered, number, word};
 use pcj_term::{Bytes, Kind, Term, Triple, TryClone, integer_of, print_term, push_term, read_term};
 use std::alloc::Global;
 
@@ -44,7 +43,7 @@ fn literal(alloc: Global, text: &Bytes, kind: Kind) -> Result<Term, Unanswered> 
 }
 
 /// Adds the fields that spell a term.
-fn spell_term(alloc: Global, out: &mut Answer, term: &Term) -> Result<(), Unanswered> {
+fn spell_term(out: &mut Answer, term: &Term) -> Result<(), Unanswered> {
     match term {
         Term::Iri(iri) => {
             out.word("iri")?;
@@ -52,7 +51,7 @@ fn spell_term(alloc: Global, out: &mut Answer, term: &Term) -> Result<(), Unansw
         }
         Term::Blank { load, label } => {
             out.word("blank")?;
-            out.number(alloc, *load)?;
+            out.number(*load)?;
             out.bytes(label.as_slice())
         }
         Term::Literal { text, kind } => spell_literal(out, text.as_slice(), kind),
@@ -92,17 +91,11 @@ pub(crate) fn term_case(
 
 fn answer_term(alloc: Global, out: &mut Answer, call: &str, term: &Term) -> Result<(), Unanswered> {
     match call {
-        "print_term" => show_printed(alloc, out, term),
+        "print_term" => out.term(term),
         "copy_term" => show_copy(alloc, out, term),
         "integer_of" => show_integer(alloc, out, integer_of(term)),
         _ => Err(Unanswered::NoCase),
     }
-}
-
-/// Adds the printed form of a term.
-pub(crate) fn show_printed(alloc: Global, out: &mut Answer, term: &Term) -> Result<(), Unanswered> {
-    let printed = print_term(alloc, term)?;
-    out.bytes(printed.as_slice())
 }
 
 /// `push_term FRONT TERM`: the front with the printed form behind it.
@@ -131,17 +124,12 @@ fn show_behind(
 
 fn show_copy(alloc: Global, out: &mut Answer, term: &Term) -> Result<(), Unanswered> {
     let copy = term.try_clone(alloc)?;
-    compare_terms(alloc, out, term, &copy)
+    compare_terms(out, term, &copy)
 }
 
-fn compare_terms(
-    alloc: Global,
-    out: &mut Answer,
-    term: &Term,
-    copy: &Term,
-) -> Result<(), Unanswered> {
+fn compare_terms(out: &mut Answer, term: &Term, copy: &Term) -> Result<(), Unanswered> {
     out.flag(copy == term)?;
-    spell_term(alloc, out, copy)
+    spell_term(out, copy)
 }
 
 /// `read_term BYTES`: the term that the bytes print, or `none`.
@@ -154,7 +142,7 @@ pub(crate) fn read_case(
         return Err(Unanswered::NoCase);
     };
     match read_term(alloc, printed.as_slice())? {
-        Some(term) => spell_term(alloc, out, &term),
+        Some(term) => spell_term(out, &term),
         None => out.word("none"),
     }
 }
@@ -194,26 +182,10 @@ fn answer_triple(
 
 fn show_triple_copy(alloc: Global, out: &mut Answer, triple: &Triple) -> Result<(), Unanswered> {
     let copy = triple.try_clone(alloc)?;
-    compare_triples(alloc, out, triple, &copy)
+    compare_triples(out, triple, &copy)
 }
 
-fn compare_triples(
-    alloc: Global,
-    out: &mut Answer,
-    triple: &Triple,
-    copy: &Triple,
-) -> Result<(), Unanswered> {
+fn compare_triples(out: &mut Answer, triple: &Triple, copy: &Triple) -> Result<(), Unanswered> {
     out.flag(copy == triple)?;
-    printed_triple(alloc, out, copy)
-}
-
-/// Adds three fields, the printed terms of a triple.
-pub(crate) fn printed_triple(
-    alloc: Global,
-    out: &mut Answer,
-    triple: &Triple,
-) -> Result<(), Unanswered> {
-    show_printed(alloc, out, &triple.subject)?;
-    show_printed(alloc, out, &triple.predicate)?;
-    show_printed(alloc, out, &triple.object)
+    out.triple(copy)
 }

@@ -1,6 +1,5 @@
-use crate::answer::Answer;
 use crate::argument::{byte, character};
-use crate::unanswered::Unanswered;
+use pcj_case_lines::{Answer, Unanswered};
 use pcj_term::{
     Bytes, is_absolute, is_absolute_iri, is_iri, is_label, is_label_character, is_label_start,
     is_language_tag, is_letter, is_lower_case, is_name_base, is_name_character, is_name_start,

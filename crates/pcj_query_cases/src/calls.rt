@@ -1,8 +1,7 @@
-use crate::answer::Answer;
 use crate::parts::Parts;
 use crate::show::{show_mapping, show_names, show_truth};
-use crate::unanswered::Unanswered;
 use pcj_algebra::{Pattern, TriplePattern, match_triple, variables};
+use pcj_case_lines::{Answer, Unanswered};
 use pcj_encode::{KeyRange, Order};
 use pcj_expr::{Expr, Mapping};
 use pcj_patterns::pattern_rows;
@@ -79,8 +78,25 @@ pub(crate) fn answer_rows(
 fn show_rows(out: &mut Answer, rows: Result<(Order, KeyRange), Memory>) -> Result<(), Unanswered> {
     let (order, range) = rows?;
     out.word(order_word(order))?;
-    out.key(range.after.as_slice())?;
-    out.key(range.end.as_slice())
+    show_key(out, range.after.as_slice())?;
+    show_key(out, range.end.as_slice())
+}
+
+/// Adds a key: the bytes 0 and 1, which end and escape its parts, as `|` and `^`.
+fn show_key(out: &mut Answer, key: &[u8]) -> Result<(), Unanswered> {
+    out.word("")?;
+    for byte in key {
+        out.go_on(&[key_byte(*byte)])?;
+    }
+    Ok(())
+}
+
+fn key_byte(byte: u8) -> u8 {
+    match byte {
+        0 => b'|',
+        1 => b'^',
+        _ => byte,
+    }
 }
 
 fn order_word(order: Order) -> &'static str {

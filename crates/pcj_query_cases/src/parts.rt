@@ -1,5 +1,5 @@
-use crate::unanswered::Unanswered;
 use pcj_algebra::{Aggregate, Pattern, Query, Shape, Slot, TriplePattern};
+use pcj_case_lines::Unanswered;
 use pcj_expr::{Binding, Compare, Expr, Mapping, Operand};
 use pcj_term::{Bytes, Items, Term, Triple, TryClone, read_term};
 use sqlite_items::Boxed;

@@ -1,6 +1,5 @@
-use crate::answer::Answer;
-use crate::unanswered::Unanswered;
 use pcj_algebra::{Aggregate, Pattern, Query, Shape, Slot, TriplePattern};
+use pcj_case_lines::{Answer, Unanswered};
 use pcj_expr::{Compare, Expr, Mapping, Operand, Truth};
 use pcj_term::{Bytes, Term, print_term};
 use std::alloc::Global;
@@ -41,7 +40,7 @@ pub(crate) fn show_names(out: &mut Answer, names: &[Bytes]) -> Result<(), Unansw
 
 fn show_name(out: &mut Answer, name: &Bytes) -> Result<(), Unanswered> {
     out.word("?")?;
-    out.bytes(name.as_slice())
+    out.go_on(name.as_slice())
 }
 
 fn aggregate_word(aggregate: Aggregate) -> &'static str {
@@ -91,7 +90,7 @@ fn show_slot(alloc: Global, out: &mut Answer, slot: &Slot) -> Result<(), Unanswe
 fn show_term(alloc: Global, out: &mut Answer, term: &Term) -> Result<(), Unanswered> {
     let text = print_term(alloc, term)?;
     out.word("")?;
-    out.bytes(text.as_slice())
+    out.go_on(text.as_slice())
 }
 
 fn show_condition(alloc: Global, out: &mut Answer, condition: &Expr) -> Result<(), Unanswered> {

@@ -1,9 +1,8 @@
-use crate::answer::Answer;
 use crate::calls::{answer_match, answer_rows, answer_truth, answer_variables};
 use crate::parts::Parts;
 use crate::show::{show_mapping, show_query, show_truth};
-use crate::unanswered::Unanswered;
 use pcj_algebra::{Aggregate, Query};
+use pcj_case_lines::{Answer, Unanswered};
 use pcj_expr::{Compare, Mapping, Truth};
 use pcj_term::TryClone;
 use std::alloc::Global;
