@@ -4,11 +4,10 @@ ghost use Rattle.pcj_term.specs.Order.{same_bytes};
 ghost use Rattle.pcj_oracle.specs.Clock.{IsClock};
 ghost use Rattle.pcj_moves.specs.Transactions.{are_distinct};
 
-use crate::answer::Answer;
 use crate::show::{show_actor, show_txn_error};
-use crate::unanswered::Unanswered;
 use crate::words::{number_of, range, write};
 use pcj_actor::Actor;
+use pcj_case_lines::{Answer, Unanswered};
 use pcj_oracle::Oracle;
 use pcj_table::{Plain, RowTable, Write};
 use pcj_term::{Bytes, Items};

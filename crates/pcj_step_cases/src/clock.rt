@@ -1,9 +1,8 @@
 ghost use Rattle.std.specs.Prelude.{◌≡◌, ◌≤◌, ◌^◌, OnOk, OnErr};
 ghost use Rattle.pcj_oracle.specs.Clock.{IsClock, stored_number};
 
-use crate::answer::Answer;
 use crate::show::{show_number, show_table_error};
-use crate::unanswered::Unanswered;
+use pcj_case_lines::{Answer, Unanswered};
 use pcj_oracle::Oracle;
 use pcj_table::{Mutated, Plain, RowTable, TableError, Update};
 use pcj_term::Bytes;

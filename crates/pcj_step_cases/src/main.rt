@@ -9,23 +9,19 @@
 //! ends.
 #![tactic(auto)]
 
-mod answer;
 mod client;
 mod clock;
 mod scene;
 mod show;
-mod unanswered;
 mod words;
 
-use answer::Answer;
+use pcj_case_lines::{Answer, Cases, Unanswered, answer_lines};
 use pcj_memtable::MemTable;
 use pcj_term::Items;
 use scene::Scene;
 use std::alloc::Global;
-use std::io;
 use std::process::ExitCode;
 use std::str::FromStr;
-use unanswered::Unanswered;
 use words::answer_words;
 
 /// The calls that are to fail, by the first word of a line.
@@ -49,44 +45,18 @@ fn answer_case(alloc: Global, out: &mut Answer, line: &str) -> Result<(), Unansw
     answer_words(&mut scene, &mut table, out, steps)
 }
 
-/// Adds the answers of a line, or a question mark where it is no case. Whether it was one, or no line to be answered.
-fn answer_line(alloc: Global, out: &mut Answer, line: &str) -> Result<bool, Unanswered> {
-    if line.is_empty() || line.starts_with('#') {
-        return Ok(true);
-    }
-    out.word("=")?;
-    match answer_case(alloc, out, line) {
-        Ok(()) => Ok(true),
-        Err(Unanswered::Memory) => Err(Unanswered::Memory),
-        Err(Unanswered::NoCase) => {
-            out.word("?")?;
-            Ok(false)
-        }
-    }
-}
+/// The steps of a line, carried out.
+struct Steps;
 
-/// Writes a line with its answers. Whether it was a case, or no line to be answered; and `false` where it was not written.
-fn write_line(rt: &(impl Print + AllocGlobal), line: &str) -> bool {
-    let Ok(mut out) = Answer::of(rt.alloc(), line) else {
-        return false;
-    };
-    let is_case = answer_line(rt.alloc(), &mut out, line) == Ok(true);
-    rt.println(out.as_str()).is_ok() && is_case
-}
-
-/// Answers every line. Whether each was a case, or no line to be answered, and was written.
-fn write_lines(rt: &(impl Input + Print + AllocGlobal)) -> io::Result<bool> {
-    let mut all = true;
-    for line in rt.lines(rt.alloc()) {
-        let line = line?;
-        all = write_line(rt, line.as_str()) && all;
+impl Cases for Steps {
+    fn answer(&self, out: &mut Answer, line: &str) -> Result<(), Unanswered> {
+        answer_case(out.alloc, out, line)
     }
-    Ok(all)
 }
 
 fn main(rt: HostRuntime) -> ExitCode {
-    match write_lines(&rt) {
-        Ok(true) => ExitCode::SUCCESS,
+    match answer_lines(&rt, b' ', &Steps) {
+        Ok(tally) if tally.unanswered == 0 => ExitCode::SUCCESS,
         _ => ExitCode::FAILURE,
     }
 }

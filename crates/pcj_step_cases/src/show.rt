@@ -1,8 +1,7 @@
 //! What is written of events, answers and a transaction's errors. It is written of a copy, so that a copy is made of each.
 
-use crate::answer::Answer;
-use crate::unanswered::Unanswered;
 use pcj_actor::ActorEvent;
+use pcj_case_lines::{Answer, Unanswered};
 use pcj_moves::Answer as Read;
 use pcj_oracle::OracleError;
 use pcj_recover::RecoveryEvent;
@@ -11,11 +10,23 @@ use pcj_table::{Pair, Plain, Row, TableError, Version};
 use pcj_term::{Bytes, TryClone};
 use pcj_txn::{TxnError, TxnEvent};
 
+/// Goes on with the word: a mark and bytes of ASCII.
+fn go_on(out: &mut Answer, mark: u8, bytes: &[u8]) -> Result<(), Unanswered> {
+    out.go_on(&[mark])?;
+    out.go_on(bytes)
+}
+
+/// Goes on with the word: a mark and a number.
+fn go_on_with_number(out: &mut Answer, mark: u8, number: u64) -> Result<(), Unanswered> {
+    let text = format!(in out.alloc; "{number}")?;
+    go_on(out, mark, text.as_bytes())
+}
+
 /// Adds the lock that was met.
 pub(crate) fn show_met(out: &mut Answer, key: &[u8], start: u64) -> Result<(), Unanswered> {
     out.word("met")?;
-    out.bytes(':', key)?;
-    out.number('@', start)
+    go_on(out, b':', key)?;
+    go_on_with_number(out, b'@', start)
 }
 
 /// Adds what a step of a transaction came to.
@@ -42,14 +53,14 @@ fn show_txn_copy(out: &mut Answer, event: &TxnEvent) -> Result<(), Unanswered> {
 
 fn show_at(out: &mut Answer, word: &str, key: &[u8], number: u64) -> Result<(), Unanswered> {
     out.word(word)?;
-    out.bytes(':', key)?;
-    out.number('@', number)
+    go_on(out, b':', key)?;
+    go_on_with_number(out, b'@', number)
 }
 
 /// Adds a word with a number.
 pub(crate) fn show_number(out: &mut Answer, word: &str, number: u64) -> Result<(), Unanswered> {
     out.word(word)?;
-    out.number(':', number)
+    go_on_with_number(out, b':', number)
 }
 
 /// Adds what a step of a recovery came to.
@@ -73,8 +84,8 @@ fn show_read_copy(out: &mut Answer, event: &ReadEvent) -> Result<(), Unanswered>
         ReadEvent::MetLock { key, lock } => show_met(out, key.as_slice(), lock.start),
         ReadEvent::Found(pair) => {
             out.word("found")?;
-            out.bytes(':', pair.key.as_slice())?;
-            out.bytes('=', pair.value.as_slice())
+            go_on(out, b':', pair.key.as_slice())?;
+            go_on(out, b'=', pair.value.as_slice())
         }
     }
 }
@@ -113,21 +124,21 @@ fn show_answer(out: &mut Answer, answer: &Read) -> Result<(), Unanswered> {
 fn show_answer_copy(out: &mut Answer, answer: &Read) -> Result<(), Unanswered> {
     match answer {
         Read::OfRow { key, found } => {
-            out.bytes('[', key.as_slice())?;
+            go_on(out, b'[', key.as_slice())?;
             show_found_value(out, found)?;
         }
         Read::OfRange { after, end, found } => {
-            out.bytes('[', after.as_slice())?;
-            out.bytes('-', end.as_slice())?;
+            go_on(out, b'[', after.as_slice())?;
+            go_on(out, b'-', end.as_slice())?;
             show_found_pair(out, found)?;
         }
     }
-    out.bytes(']', b"")
+    go_on(out, b']', b"")
 }
 
 fn show_found_value(out: &mut Answer, found: &Option<Bytes>) -> Result<(), Unanswered> {
     match found {
-        Some(value) => out.bytes('=', value.as_slice()),
+        Some(value) => go_on(out, b'=', value.as_slice()),
         None => Ok(()),
     }
 }
@@ -135,8 +146,8 @@ fn show_found_value(out: &mut Answer, found: &Option<Bytes>) -> Result<(), Unans
 fn show_found_pair(out: &mut Answer, found: &Option<Pair>) -> Result<(), Unanswered> {
     match found {
         Some(pair) => {
-            out.bytes(':', pair.key.as_slice())?;
-            out.bytes('=', pair.value.as_slice())
+            go_on(out, b':', pair.key.as_slice())?;
+            go_on(out, b'=', pair.value.as_slice())
         }
         None => Ok(()),
     }
@@ -144,9 +155,9 @@ fn show_found_pair(out: &mut Answer, found: &Option<Pair>) -> Result<(), Unanswe
 
 /// Adds the lock of a row, its versions and its plain value.
 pub(crate) fn show_row(out: &mut Answer, row: &Row) -> Result<(), Unanswered> {
-    out.bytes('[', b"")?;
+    go_on(out, b'[', b"")?;
     if let Some(lock) = &row.lock {
-        out.number('L', lock.start)?;
+        go_on_with_number(out, b'L', lock.start)?;
     }
     for version in row.versions.as_slice() {
         show_version(out, version)?;
@@ -154,20 +165,20 @@ pub(crate) fn show_row(out: &mut Answer, row: &Row) -> Result<(), Unanswered> {
     if let Some(plain) = &row.plain {
         show_plain(out, plain)?;
     }
-    out.bytes(']', b"")
+    go_on(out, b']', b"")
 }
 
 fn show_plain(out: &mut Answer, plain: &Plain) -> Result<(), Unanswered> {
-    out.number('P', plain.seq)?;
+    go_on_with_number(out, b'P', plain.seq)?;
     match &plain.value {
-        Some(value) => out.bytes('=', value.as_slice()),
+        Some(value) => go_on(out, b'=', value.as_slice()),
         None => Ok(()),
     }
 }
 
 fn show_version(out: &mut Answer, version: &Version) -> Result<(), Unanswered> {
-    out.number('V', version.start)?;
-    out.number('@', version.commit)
+    go_on_with_number(out, b'V', version.start)?;
+    go_on_with_number(out, b'@', version.commit)
 }
 
 /// Adds why a call of the table did nothing.

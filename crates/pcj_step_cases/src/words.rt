@@ -1,7 +1,6 @@
 ghost use Rattle.std.specs.Prelude.{◌≡◌, ◌≤◌};
 ghost use Rattle.pcj_oracle.specs.Clock.{IsClock, stored_number};
 
-use crate::answer::Answer;
 use crate::client::Client;
 use crate::clock::leave_numbers;
 use crate::scene::Scene;
@@ -9,7 +8,7 @@ use crate::show::{
     show_number, show_oracle_error, show_read, show_recovery, show_row, show_table_error, show_txn,
     show_txn_error,
 };
-use crate::unanswered::Unanswered;
+use pcj_case_lines::{Answer, Unanswered};
 use pcj_encode::KeyRange;
 use pcj_oracle::Oracle;
 use pcj_recover::Recovery;
