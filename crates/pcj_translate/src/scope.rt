@@ -16,6 +16,7 @@ pub struct Prefixes {
 }
 
 impl Prefixes {
+    /// No prefix declared.
     pub fn new(alloc: Global) -> Prefixes
         ensures { (text : List ℕ) (prefix : List ℕ) → (scope_by text result).namespace prefix ≡ None }
     {
