@@ -1,3 +1,3 @@
 mod MatchLemmas
 mod NameLemmas
-mod OneMatch
+pub mod OneMatch

@@ -1,6 +1,7 @@
 mod Contained
 mod JoinLemmas
 mod KeyLemmas
+mod MatchSets
 mod MergeLemmas
 mod OneSet
 mod OrderLemmas

@@ -8,6 +8,7 @@
 mod conditions;
 mod joins;
 mod laws;
+mod matches;
 mod merging;
 mod order;
 mod patterns;
@@ -16,5 +17,6 @@ mod sets;
 pub use conditions::filter;
 pub use joins::join;
 pub use laws::solutions_are_one_list;
+pub use matches::matches_of;
 pub use patterns::solutions;
 pub use sets::union;
