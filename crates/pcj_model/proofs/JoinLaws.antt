@@ -12,7 +12,7 @@ use Rattle.pcj_term.specs.Triple.{Joins, same_triple}
 use Rattle.pcj_term.proofs.Same.{same_triple_true, same_triple_refl}
 use Rattle.pcj_ntriples.proofs.Laws.{is_either}
 use Rattle.pcj_script.specs.Commands.{Command}
-use Rattle.pcj_script.specs.Commands.Command.{Load, Register, StepClient, Crash, Status as AsksStatus, Answers}
+use Rattle.pcj_script.specs.Commands.Command.{Load, Register, StepClient, Crash, Status as AsksStatus, Answers, Scan}
 use Rattle.pcj_script.specs.declared.command.Crashed.{Crashed}
 use Rattle.pcj_script.specs.declared.command.Crashed.TheVariants as whose
 use Rattle.pcj_model.specs.Job.{Job, StepsReply, is_among}
@@ -112,6 +112,9 @@ loads_join_whole language old AsksStatus lines new (inr a) = inl (ap of a.same)
 loads_join_whole language old (Answers name) lines new (inl a) = inl (ap of a.same)
 loads_join_whole language old (Answers name) lines new (inr (inl a)) = inl (ap of a.met)
 loads_join_whole language old (Answers name) lines new (inr (inr a)) = inl (ap of a.met)
+loads_join_whole language old (Scan text) lines new (inl a) = inl (ap of a.same)
+loads_join_whole language old (Scan text) lines new (inr (inl a)) = inl (ap of a.met)
+loads_join_whole language old (Scan text) lines new (inr (inr a)) = inl (ap of a.met)
 
 -- ---- answers without a fault
 
@@ -126,7 +129,7 @@ answered_load language old client text None e h = elim (is_either text (old.last
 ]
 
 answered_register : (language : Language) (old : State) (client : ℕ) (name text : List ℕ) (job : Option Job) (refusal : Option Refusal) (holder : Option Registration) →
-    old.jobs client ≡ job → language.refusal text ≡ refusal → query_named old name ≡ holder → old.last + 2 < 2 ^ 48 → IsAnsweredWell language old (Register client name text)
+    old.jobs client ≡ job → language.register_refusal text ≡ refusal → query_named old name ≡ holder → old.last + 2 < 2 ^ 48 → IsAnsweredWell language old (Register client name text)
 answered_register language old client name text (Some job) refusal holder e f g h = (_, old, inl (record { job = job; has = e; told = refl; same = refl }), refl)
 answered_register language old client name text None (Some refusal) holder e f g h = (_, old, inr (inl (record { refusal = refusal; free = e; fault = f; told = refl; same = refl })), refl)
 answered_register language old client name text None None None e f g h = (
@@ -185,10 +188,15 @@ answered_answers language old name None e = (_, old, inl (record { unnamed = e; 
 answered_answers language old name (Some holder) e =
     (_, _, inr (inl (record { registration = holder; named = e; told = refl; met = refl })), no_fault_in_rows (language.rows holder.text old.triples) (length (language.rows holder.text old.triples)))
 
+answered_scan : (language : Language) (old : State) (text : List ℕ) (refusal : Option Refusal) → language.scan_refusal text ≡ refusal → IsAnsweredWell language old (Scan text)
+answered_scan language old text (Some refusal) e = (_, old, inl (record { refusal = refusal; fault = e; told = refl; same = refl }), refl)
+answered_scan language old text None e =
+    (_, _, inr (inl (record { good = e; told = refl; met = refl })), no_fault_in_rows (language.rows text old.triples) (length (language.rows text old.triples)))
+
 pub can_be_answered : CanBeAnswered
 can_be_answered language old (Load client text) asks h = answered_load language old client text (old.jobs client) refl h
 can_be_answered language old (Register client name text) asks h =
-    answered_register language old client name text (old.jobs client) (language.refusal text) (query_named old name) refl refl refl h
+    answered_register language old client name text (old.jobs client) (language.register_refusal text) (query_named old name) refl refl refl h
 can_be_answered language old (StepClient client most) asks h = answered_step language old client most (old.jobs client) refl asks
 can_be_answered language old (Crash crashed) asks h = (_, _, record { told = refl; left = refl }, no_fault_in_crash crashed)
 can_be_answered language old AsksStatus asks h = (
@@ -207,3 +215,4 @@ can_be_answered language old AsksStatus asks h = (
   refl,
 )
 can_be_answered language old (Answers name) asks h = answered_answers language old name (query_named old name) refl
+can_be_answered language old (Scan text) asks h = answered_scan language old text (language.scan_refusal text) refl

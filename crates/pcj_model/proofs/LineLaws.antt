@@ -16,7 +16,7 @@ use Rattle.std.proofs.lemmas.List.{length-map, take-map}
 use Rattle.pcj_model.specs.declared.line.Line.{Line as Told}
 use Rattle.pcj_model.specs.Line.{Event, Line, line_of, event_text, line_text, printed, StandsInPart}
 use Rattle.pcj_model.specs.Line.Event.{Loaded, Registered, Busy, Refused, Committed, Done, Aborted, Taken, Nothing, Fault, Steps, Crashed}
-use Rattle.pcj_model.specs.Line.Line.{Client, AllCrashed, OracleCrashed, Status, StatusFault, Row, Rows, NoQuery, AnswersFault, Spent, Script}
+use Rattle.pcj_model.specs.Line.Line.{Client, AllCrashed, OracleCrashed, Status, StatusFault, Row, Rows, NoQuery, AnswersFault, ScanRefused, ScanFault, Spent, Script}
 use Rattle.pcj_model.specs.Laws.{HasNoFeed, Fits64, IsEvent, IsLine, StandApart}
 
 abbrev is_other : ℕ → Bool
@@ -97,6 +97,9 @@ line_is_clean (Row row) h = fixed row h
 line_is_clean (Rows count) h = then_number count h (fixed (codes "rows ") refl)
 line_is_clean (NoQuery name) h = then_text name h (fixed (codes "no query ") refl)
 line_is_clean AnswersFault h = fixed (codes "answers fault") refl
+line_is_clean (ScanRefused place kind) h =
+    then_number kind h.1 (then_text (codes " ") refl (then_number place h.0 (fixed (codes "refused ") refl)))
+line_is_clean ScanFault h = fixed (codes "scan fault") refl
 line_is_clean Spent h = fixed (codes "spent") refl
 line_is_clean (Script line kind) h =
     then_number (number_of kind) (kind_fits kind) (then_text (codes " ") refl (then_number line h (fixed (codes "script ") refl)))

@@ -8,12 +8,12 @@ use Rattle.pcj_ntriples.proofs.Laws.{says_one_thing}
 use Rattle.pcj_script.specs.declared.command.Crashed.{Crashed}
 use Rattle.pcj_script.specs.declared.command.Crashed.TheVariants as whose
 use Rattle.pcj_script.specs.Commands.{Command}
-use Rattle.pcj_script.specs.Commands.Command.{Load, Register, StepClient, Crash, Status as AsksStatus, Answers}
+use Rattle.pcj_script.specs.Commands.Command.{Load, Register, StepClient, Crash, Status as AsksStatus, Answers, Scan}
 use Rattle.pcj_model.specs.Job.{Job, StepsEnd, steps_lines, job_after}
 use Rattle.pcj_model.specs.Job.StepsEnd.{AllMade, IsDone, IsAborted, Fails}
 use Rattle.pcj_model.specs.Line.{Line}
 use Rattle.pcj_model.specs.Line.Event.{Loaded, Registered, Committed, Steps}
-use Rattle.pcj_model.specs.Line.Line.{Client, Status, Row, Rows, NoQuery}
+use Rattle.pcj_model.specs.Line.Line.{Client, Status, Row, Rows, NoQuery, ScanRefused}
 use Rattle.pcj_model.specs.State.{State, with_jobs, all_beside, with_load, with_last, with_query, with_status, stepped}
 use Rattle.pcj_model.specs.Reply.{Language, Reply, answer_lines, crash_line}
 use Rattle.pcj_model.specs.Laws.{RepliesTell}
@@ -73,7 +73,7 @@ step_leaves language old client most lines new (inr a) =
     ∙ ap (λ k. stepped old client a.job (commit_in lines) (job_after a.job (commit_in lines) (end_in lines) k) k) (sym count)
     ∙ ap (λ job. step_left old client job lines) (sym a.has)
 
--- ---- status and answers
+-- ---- status, answers and scan
 
 abbrev status_left : State → List Line → State
 status_left old (Status notifications locks ∷ lines) = with_status old notifications locks
@@ -92,6 +92,19 @@ answers_leave language old name lines new (inl a) = a.same ∙ ap (answers_left 
 answers_leave language old name lines new (inr (inl a)) = a.met ∙ sym (answered_left old (language.rows a.registration.text old.triples)) ∙ ap (answers_left old) (sym a.told)
 answers_leave language old name lines new (inr (inr a)) = a.met ∙ ap (answers_left old) (sym a.told)
 
+abbrev scan_left : State → List Line → State
+scan_left old (ScanRefused place kind ∷ lines) = old
+scan_left old lines = with_jobs old (all_beside [] old.jobs)
+
+scanned_left : (old : State) (rows : List (List ℕ)) → scan_left old (answer_lines rows) ≡ with_jobs old (all_beside [] old.jobs)
+scanned_left old [] = refl
+scanned_left old (row ∷ rows) = refl
+
+scan_leaves : (language : Language) (old : State) (text : List ℕ) (lines : List Line) (new : State) → Reply language old (Scan text) lines new → new ≡ scan_left old lines
+scan_leaves language old text lines new (inl a) = a.same ∙ ap (scan_left old) (sym a.told)
+scan_leaves language old text lines new (inr (inl a)) = a.met ∙ sym (scanned_left old (language.rows text old.triples)) ∙ ap (scan_left old) (sym a.told)
+scan_leaves language old text lines new (inr (inr a)) = a.met ∙ ap (scan_left old) (sym a.told)
+
 status_leaves : (language : Language) (old : State) (lines : List Line) (new : State) → Reply language old AsksStatus lines new → new ≡ status_left old lines
 status_leaves language old lines new (inl a) = a.known ∙ ap (status_left old) (sym a.told)
 status_leaves language old lines new (inr a) = a.same ∙ ap (status_left old) (sym a.told)
@@ -107,6 +120,7 @@ replies_tell language old (StepClient client most) lines new other a b = step_le
 replies_tell language old (Crash crashed) lines new other a b = a.left ∙ sym b.left
 replies_tell language old AsksStatus lines new other a b = status_leaves language old lines new a ∙ sym (status_leaves language old lines other b)
 replies_tell language old (Answers name) lines new other a b = answers_leave language old name lines new a ∙ sym (answers_leave language old name lines other b)
+replies_tell language old (Scan text) lines new other a b = scan_leaves language old text lines new a ∙ sym (scan_leaves language old text lines other b)
 
 -- ---- where a reply ends
 
@@ -115,6 +129,7 @@ closes (Register client name text) (Client other (Registered number named)) = fa
 closes (StepClient client most) (Client other (Steps count)) = true
 closes (StepClient client most) line = false
 closes (Answers name) (Row row) = false
+closes (Scan text) (Row row) = false
 closes command line = true
 
 -- the last of the lines, and no other one, passes the test
@@ -137,6 +152,11 @@ rows_end : (name : List ℕ) (rows : List (List ℕ)) (count : ℕ) → ends_fir
 rows_end name [] count = refl
 rows_end name (row ∷ []) count = refl
 rows_end name (row ∷ next ∷ rows) count = rows_end name (next ∷ rows) count
+
+scan_rows_end : (text : List ℕ) (rows : List (List ℕ)) (count : ℕ) → ends_first (closes (Scan text)) (map Row rows ++ Rows count ∷ []) ≡ true
+scan_rows_end text [] count = refl
+scan_rows_end text (row ∷ []) count = refl
+scan_rows_end text (row ∷ next ∷ rows) count = scan_rows_end text (next ∷ rows) count
 
 crash_ends : (crashed : Crashed) → ends_first (closes (Crash crashed)) (crash_line crashed ∷ []) ≡ true
 crash_ends (whose.Client client) = refl
@@ -166,6 +186,11 @@ replies_end language old (Answers name) lines new (inr (inl a)) =
     let rows = language.rows a.registration.text old.triples in
     subst (Ends (Answers name)) (sym a.told) (rows_end name rows (length rows))
 replies_end language old (Answers name) lines new (inr (inr a)) = subst (Ends (Answers name)) (sym a.told) refl
+replies_end language old (Scan text) lines new (inl a) = subst (Ends (Scan text)) (sym a.told) refl
+replies_end language old (Scan text) lines new (inr (inl a)) =
+    let rows = language.rows text old.triples in
+    subst (Ends (Scan text)) (sym a.told) (scan_rows_end text rows (length rows))
+replies_end language old (Scan text) lines new (inr (inr a)) = subst (Ends (Scan text)) (sym a.told) refl
 
 no_more : (test : Line → Bool) (line next : Line) (lines : List Line) → line ≡ next → test line ≡ true → (not (test next) && ends_first test lines) ≡ true → ⊥
 no_more test line next lines e ends more =

@@ -6,7 +6,7 @@ use Rattle.pcj_term.specs.declared.triple.Triple.{Triple}
 use Rattle.pcj_script.specs.declared.command.Crashed.{Crashed}
 use Rattle.pcj_script.specs.declared.command.Crashed.TheVariants as whose
 use Rattle.pcj_script.specs.Commands.{Command}
-use Rattle.pcj_script.specs.Commands.Command.{Load, Register, StepClient, Crash, Status as AsksStatus, Answers}
+use Rattle.pcj_script.specs.Commands.Command.{Load, Register, StepClient, Crash, Status as AsksStatus, Answers, Scan}
 use Rattle.pcj_model.specs.Job.{Job, MayCommit, IsTimestampAbove, beside}
 use Rattle.pcj_model.specs.Line.{Line}
 use Rattle.pcj_model.specs.State.{State, last_after}
@@ -55,6 +55,9 @@ reply_rises language old AsksStatus lines new (inr a) = moved old.last new _ a.s
 reply_rises language old (Answers name) lines new (inl a) = moved old.last new _ a.same (rises_not old.last)
 reply_rises language old (Answers name) lines new (inr (inl a)) = moved old.last new _ a.met (rises_not old.last)
 reply_rises language old (Answers name) lines new (inr (inr a)) = moved old.last new _ a.met (rises_not old.last)
+reply_rises language old (Scan text) lines new (inl a) = moved old.last new _ a.same (rises_not old.last)
+reply_rises language old (Scan text) lines new (inr (inl a)) = moved old.last new _ a.met (rises_not old.last)
+reply_rises language old (Scan text) lines new (inr (inr a)) = moved old.last new _ a.met (rises_not old.last)
 
 pub timestamps_rise : TimestampsRise
 timestamps_rise language old [] [] new a h = moved old.last new old a (rises_not old.last) h
@@ -113,6 +116,11 @@ reply_rests language old (Answers name) lines new (inl a) free none = still old 
 reply_rests language old (Answers name) lines new (inr (inl a)) free none =
     subst (λ (s : State). Rests s old.triples) (sym a.met) (record { free = λ client. ap (λ job. option_map (beside []) job) (free client); triples_same = refl })
 reply_rests language old (Answers name) lines new (inr (inr a)) free none =
+    subst (λ (s : State). Rests s old.triples) (sym a.met) (record { free = λ client. ap (λ job. option_map (beside []) job) (free client); triples_same = refl })
+reply_rests language old (Scan text) lines new (inl a) free none = still old new a.same free
+reply_rests language old (Scan text) lines new (inr (inl a)) free none =
+    subst (λ (s : State). Rests s old.triples) (sym a.met) (record { free = λ client. ap (λ job. option_map (beside []) job) (free client); triples_same = refl })
+reply_rests language old (Scan text) lines new (inr (inr a)) free none =
     subst (λ (s : State). Rests s old.triples) (sym a.met) (record { free = λ client. ap (λ job. option_map (beside []) job) (free client); triples_same = refl })
 
 none_first : (passes before : Bool) (Rest : Type 0) → (before ≡ false → Rest) → (passes || before) ≡ false → Rest

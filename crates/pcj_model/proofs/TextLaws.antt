@@ -15,7 +15,7 @@ use Rattle.pcj_script.specs.declared.error.ScriptKind.TheVariants.{UnknownComman
 use Rattle.pcj_script.specs.Kind.{number_of}
 use Rattle.pcj_model.specs.Line.{Event, Line, event_text, line_text, printed}
 use Rattle.pcj_model.specs.Line.Event.{Loaded, Registered, Busy, Refused, Committed, Done, Aborted, Taken, Nothing, Fault, Steps, Crashed}
-use Rattle.pcj_model.specs.Line.Line.{Client, AllCrashed, OracleCrashed, Status, StatusFault, Row, Rows, NoQuery, AnswersFault, Spent, Script}
+use Rattle.pcj_model.specs.Line.Line.{Client, AllCrashed, OracleCrashed, Status, StatusFault, Row, Rows, NoQuery, AnswersFault, ScanRefused, ScanFault, Spent, Script}
 use Rattle.pcj_model.specs.Laws.{Fits64, IsEvent, IsLine, HasNoBlank, StandsOut, IsClear, begins_small, TextsTell}
 use Rattle.pcj_model.proofs.LineLaws.{kind_fits, stand_apart}
 
@@ -45,6 +45,8 @@ line_words (Row row) = row ∷ []
 line_words (Rows count) = codes "rows" ∷ decimal count ∷ []
 line_words (NoQuery name) = codes "no" ∷ codes "query" ∷ name ∷ []
 line_words AnswersFault = codes "answers" ∷ codes "fault" ∷ []
+line_words (ScanRefused place kind) = codes "refused" ∷ decimal place ∷ decimal kind ∷ []
+line_words ScanFault = codes "scan" ∷ codes "fault" ∷ []
 line_words Spent = codes "spent" ∷ []
 line_words (Script line kind) = codes "script" ∷ decimal line ∷ decimal (number_of kind) ∷ []
 
@@ -83,6 +85,8 @@ joined (Row row) = refl
 joined (Rows count) = refl
 joined (NoQuery name) = refl
 joined AnswersFault = refl
+joined (ScanRefused place kind) = four (codes "refused ") (decimal place) (codes " ") (decimal kind)
+joined ScanFault = refl
 joined Spent = refl
 joined (Script line kind) = four (codes "script ") (decimal line) (codes " ") (decimal (number_of kind))
 
@@ -131,6 +135,8 @@ line_is_plain (Row row) said h out = absurd said
 line_is_plain (Rows count) said h out = (refl, (number count h, tt))
 line_is_plain (NoQuery name) said h out = (refl, (refl, (out, tt)))
 line_is_plain AnswersFault said h out = (refl, (refl, tt))
+line_is_plain (ScanRefused place kind) said h out = (refl, (number place h.0, (number kind h.1, tt)))
+line_is_plain ScanFault said h out = (refl, (refl, tt))
 line_is_plain Spent said h out = (refl, tt)
 line_is_plain (Script line kind) said h out = (refl, (number line h, (number (number_of kind) (kind_fits kind), tt)))
 
@@ -171,6 +177,8 @@ has_words (Row row) = tt
 has_words (Rows count) = tt
 has_words (NoQuery name) = tt
 has_words AnswersFault = tt
+has_words (ScanRefused place kind) = tt
+has_words ScanFault = tt
 has_words Spent = tt
 has_words (Script line kind) = tt
 
@@ -210,7 +218,10 @@ kind_read kind =
     TooMuch
 
 abbrev three_read : List ℕ → List ℕ → List ℕ → Line
-three_read first word other = if same_bytes first (codes "no") then NoQuery other else Script (value word) (kind_read (value other))
+three_read first word other =
+    if same_bytes first (codes "no") then NoQuery other else
+    if same_bytes first (codes "refused") then ScanRefused (value word) (value other) else
+    Script (value word) (kind_read (value other))
 
 abbrev two_read : List ℕ → List ℕ → Line
 two_read first word =
@@ -218,6 +229,7 @@ two_read first word =
     if same_bytes first (codes "oracle") then OracleCrashed else
     if same_bytes first (codes "status") then StatusFault else
     if same_bytes first (codes "answers") then AnswersFault else
+    if same_bytes first (codes "scan") then ScanFault else
     Rows (value word)
 
 abbrev begins_client : List ℕ → Bool
@@ -271,6 +283,9 @@ line_reads (Row row) said h = absurd said
 line_reads (Rows count) said h = ap (λ k. Rows k) (worth count h)
 line_reads (NoQuery name) said h = refl
 line_reads AnswersFault said h = refl
+line_reads (ScanRefused place kind) said h =
+    ap (λ k. ScanRefused k (value (decimal kind))) (worth place h.0) ∙ ap (λ k. ScanRefused place k) (worth kind h.1)
+line_reads ScanFault said h = refl
 line_reads Spent said h = refl
 line_reads (Script line kind) said h =
     ap (λ k. Script k (kind_read (value (decimal (number_of kind))))) (worth line h)
@@ -311,6 +326,8 @@ is_read (Row row) h out = ap (λ (b : Bool). if b then line_read (words row) els
 is_read (Rows count) h out = said_read (Rows count) refl tt h out
 is_read (NoQuery name) h out = said_read (NoQuery name) refl tt h out
 is_read AnswersFault h out = said_read AnswersFault refl tt h out
+is_read (ScanRefused place kind) h out = said_read (ScanRefused place kind) refl tt h out
+is_read ScanFault h out = said_read ScanFault refl tt h out
 is_read Spent h out = said_read Spent refl tt h out
 is_read (Script line kind) h out = said_read (Script line kind) refl tt h out
 

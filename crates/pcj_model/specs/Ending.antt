@@ -4,7 +4,7 @@ use Rattle.pcj_ntriples.specs.declared.kind.NtKind.{NtKind}
 use Rattle.pcj_ntriples.specs.Document.{DocumentFault}
 use Rattle.pcj_script.specs.declared.error.ScriptKind.{ScriptKind}
 use Rattle.pcj_script.specs.Commands.{Command}
-use Rattle.pcj_script.specs.Commands.Command.{Load, Register, StepClient, Crash, Status as AsksStatus, Answers}
+use Rattle.pcj_script.specs.Commands.Command.{Load, Register, StepClient, Crash, Status as AsksStatus, Answers, Scan}
 use Rattle.pcj_script.specs.Script.{Ending as ScriptEnding}
 use Rattle.pcj_script.specs.Script.Ending.{End, RefusedAt}
 use Rattle.pcj_model.specs.declared.ending.Ending.{Ending}
@@ -40,11 +40,12 @@ pub record Tells (language : Language) (start : State) (commands : List Command)
 -- answer is read
 abbrev pub MayDraw : Language → State → Command → Type 0
 MayDraw language old (Load client text) = (old.jobs client ≡ None) × ((line : ℕ) (kind : NtKind) → DocumentFault text line kind → ⊥)
-MayDraw language old (Register client name text) = (old.jobs client ≡ None) × (language.refusal text ≡ None)
+MayDraw language old (Register client name text) = (old.jobs client ≡ None) × (language.register_refusal text ≡ None)
 MayDraw language old (StepClient client most) = (job : Job) × (old.jobs client ≡ Some job) × (job.is_committed ≡ false)
 MayDraw language old (Crash crashed) = ⊥
 MayDraw language old AsksStatus = ⊥
 MayDraw language old (Answers name) = (registration : Registration) × (query_named old name ≡ Some registration)
+MayDraw language old (Scan text) = language.scan_refusal text ≡ None
 
 -- The commands before one were carried out, and for that one 2^48 would be drawn. It has told nothing: a step has drawn no
 -- commit yet.

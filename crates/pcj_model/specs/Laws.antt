@@ -3,7 +3,7 @@ use Rattle.std.specs.Prelude.{◌≡◌, ◌⊎◌, ℕ, ◌+◌, ◌<◌, ◌�
 use Rattle.std.specs.List.{list_all, list_any, slice_split, AllByRecursion, Contains}
 use Rattle.pcj_term.specs.Triple.{Joins}
 use Rattle.pcj_script.specs.Commands.{Command}
-use Rattle.pcj_script.specs.Commands.Command.{Load, Register, StepClient, Crash, Status as AsksStatus, Answers}
+use Rattle.pcj_script.specs.Commands.Command.{Load, Register, StepClient, Crash, Status as AsksStatus, Answers, Scan}
 use Rattle.pcj_model.specs.Job.{Job, StepsReply}
 use Rattle.pcj_model.specs.State.{State}
 use Rattle.pcj_model.specs.Reply.{Language, Reply}
@@ -11,7 +11,7 @@ use Rattle.pcj_model.specs.Run.{Run, all_lines}
 use Rattle.pcj_model.specs.Ending.{Tells}
 use Rattle.pcj_model.specs.Line.{Event, Line, line_text, printed}
 use Rattle.pcj_model.specs.Line.Event.{Loaded, Registered, Busy, Refused, Committed, Done, Aborted, Taken, Nothing, Fault, Steps, Crashed}
-use Rattle.pcj_model.specs.Line.Line.{Client, AllCrashed, OracleCrashed, Status, StatusFault, Row, Rows, NoQuery, AnswersFault, Spent, Script}
+use Rattle.pcj_model.specs.Line.Line.{Client, AllCrashed, OracleCrashed, Status, StatusFault, Row, Rows, NoQuery, AnswersFault, ScanRefused, ScanFault, Spent, Script}
 
 abbrev pub HasNoFeed : List ℕ → Type 0
 HasNoFeed text = list_all (λ byte. not (byte == 10)) text ≡ true
@@ -45,6 +45,8 @@ IsLine (Row row) = HasNoFeed row
 IsLine (Rows count) = Fits64 count
 IsLine (NoQuery name) = HasNoFeed name
 IsLine AnswersFault = Unit {0}
+IsLine (ScanRefused place kind) = Fits64 place × Fits64 kind
+IsLine ScanFault = Unit {0}
 IsLine Spent = Unit {0}
 IsLine (Script line kind) = Fits64 line
 
@@ -110,11 +112,13 @@ AsksSteps (StepClient client most) = 1 ≤ most
 AsksSteps (Crash crashed) = Unit {0}
 AsksSteps AsksStatus = Unit {0}
 AsksSteps (Answers name) = Unit {0}
+AsksSteps (Scan text) = Unit {0}
 
 abbrev pub is_fault : Line → Bool
 is_fault (Client client Fault) = true
 is_fault StatusFault = true
 is_fault AnswersFault = true
+is_fault ScanFault = true
 is_fault line = false
 
 -- a command can be answered without a fault in every state, while there are timestamps

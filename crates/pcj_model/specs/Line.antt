@@ -36,6 +36,8 @@ pub data Line : Type 0 where
   Rows : (count : ℕ) → Line
   NoQuery : (name : List ℕ) → Line
   AnswersFault : Line
+  ScanRefused : (place kind : ℕ) → Line
+  ScanFault : Line
   Spent : Line
   Script : (line : ℕ) (kind : ScriptKind) → Line
 
@@ -63,6 +65,8 @@ line_of (lines.Row row) = Row row.now
 line_of (lines.Rows count) = Rows count
 line_of (lines.NoQuery name) = NoQuery name.now
 line_of lines.AnswersFault = AnswersFault
+line_of (lines.ScanRefused place kind) = ScanRefused place kind
+line_of lines.ScanFault = ScanFault
 line_of lines.Spent = Spent
 line_of (lines.Script error) = Script error.line error.kind
 
@@ -73,6 +77,9 @@ steps_line client count = client_name client ++ codes " steps " ++ decimal count
 
 abbrev pub status_line : ℕ → ℕ → List ℕ
 status_line notifications locks = codes "notifications " ++ decimal notifications ++ codes " locks " ++ decimal locks
+
+abbrev pub scan_refused_line : ℕ → ℕ → List ℕ
+scan_refused_line place kind = codes "refused " ++ decimal place ++ codes " " ++ decimal kind
 
 abbrev pub script_line : ℕ → ℕ → List ℕ
 script_line line kind = codes "script " ++ decimal line ++ codes " " ++ decimal kind
@@ -103,6 +110,8 @@ line_text (Row row) = row
 line_text (Rows count) = rows_line count
 line_text (NoQuery name) = no_query_line name
 line_text AnswersFault = codes "answers fault"
+line_text (ScanRefused place kind) = scan_refused_line place kind
+line_text ScanFault = codes "scan fault"
 line_text Spent = spent_line
 line_text (Script line kind) = script_line line (number_of kind)
 

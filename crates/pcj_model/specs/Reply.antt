@@ -6,11 +6,11 @@ use Rattle.pcj_ntriples.specs.Document.{Document, DocumentFault, number_of}
 use Rattle.pcj_script.specs.declared.command.Crashed.{Crashed}
 use Rattle.pcj_script.specs.declared.command.Crashed.TheVariants as whose
 use Rattle.pcj_script.specs.Commands.{Command}
-use Rattle.pcj_script.specs.Commands.Command.{Load, Register, StepClient, Crash, Status as AsksStatus, Answers}
+use Rattle.pcj_script.specs.Commands.Command.{Load, Register, StepClient, Crash, Status as AsksStatus, Answers, Scan}
 use Rattle.pcj_model.specs.Job.{Job, IsTimestampAbove, StepsReply}
 use Rattle.pcj_model.specs.Line.{Line}
 use Rattle.pcj_model.specs.Line.Event.{Loaded, Registered, Busy, Refused, Committed, Taken, Nothing, Fault, Steps, Crashed as HasCrashed}
-use Rattle.pcj_model.specs.Line.Line.{Client, AllCrashed, OracleCrashed, Status, StatusFault, Row, Rows, NoQuery, AnswersFault}
+use Rattle.pcj_model.specs.Line.Line.{Client, AllCrashed, OracleCrashed, Status, StatusFault, Row, Rows, NoQuery, AnswersFault, ScanRefused, ScanFault}
 use Rattle.pcj_model.specs.State.{Registration, State, query_named, with_jobs, with_job, all_beside, with_load, with_last, with_query, with_status, stepped}
 
 -- ---- queries, whoever reads them
@@ -20,10 +20,12 @@ pub record Refusal : Type 0 where
   pub place : ℕ
   pub kind : ℕ
 
--- How a text is refused, if it is no query; and else the rows of its answer over some triples, as they are printed. They are
--- to be the same in whatever order the triples stand.
+-- How a text is refused, if it is no query; how one is refused that is to be registered, since there may be queries that can be
+-- answered and not registered; and else the rows of its answer over some triples, as they are printed. They are to be the same
+-- in whatever order the triples stand.
 pub record Language : Type 0 where
-  pub refusal : List ℕ → Option Refusal
+  pub scan_refusal : List ℕ → Option Refusal
+  pub register_refusal : List ℕ → Option Refusal
   pub rows : List ℕ → List Triple → List (List ℕ)
 
 -- ---- load
@@ -63,18 +65,18 @@ pub record FaultsAtLoad (old : State) (client : ℕ) (text : List ℕ) (lines : 
 
 -- ---- register
 
--- `c1 refused 0 2`: the text is no query
+-- `c1 refused 0 2`: the text is no query that can be registered
 pub record RefusesQuery (language : Language) (old : State) (client : ℕ) (text : List ℕ) (lines : List Line) (new : State) : Type 0 where
   pub refusal : Refusal
   pub free : old.jobs client ≡ None
-  pub fault : language.refusal text ≡ Some refusal
+  pub fault : language.register_refusal text ≡ Some refusal
   pub told : lines ≡ Client client (Refused refusal.place refusal.kind) ∷ []
   pub same : new ≡ old
 
--- the text is a query, and two numbers are drawn for it, one after the other
+-- the text is such a query, and two numbers are drawn for it, one after the other
 pub record IsRead (language : Language) (old : State) (client : ℕ) (text : List ℕ) (number : ℕ) : Type 0 where
   pub free : old.jobs client ≡ None
-  pub good : language.refusal text ≡ None
+  pub good : language.register_refusal text ≡ None
   pub drawn : IsTimestampAbove old.last number
   pub next : number + 1 < 2 ^ 48
 
@@ -98,7 +100,7 @@ pub record FindsTaken (language : Language) (old : State) (client : ℕ) (name t
 -- `c1 fault`: not both numbers could be drawn for a query
 pub record FaultsAtRegister (language : Language) (old : State) (client : ℕ) (text : List ℕ) (lines : List Line) (new : State) : Type 0 where
   pub free : old.jobs client ≡ None
-  pub good : language.refusal text ≡ None
+  pub good : language.register_refusal text ≡ None
   pub told : lines ≡ Client client Fault ∷ []
   pub same : new ≡ old
 
@@ -168,8 +170,8 @@ pub record IsUnknown (old : State) (name : List ℕ) (lines : List Line) (new : 
 abbrev pub answer_lines : List (List ℕ) → List Line
 answer_lines rows = map Row rows ++ Rows (length rows) ∷ []
 
--- The rows of the query over the triples of the loads that are committed, and how many they are. Locks that are met are
--- taken away, so that it is a step beside all loads in flight.
+-- The rows of the query over the triples of the loads that are committed, and how many they are: those of a scan of its text,
+-- read by the same call. Locks that are met are taken away, so that it is a step beside all loads in flight.
 pub record IsAnswered (language : Language) (old : State) (name : List ℕ) (lines : List Line) (new : State) : Type 0 where
   pub registration : Registration
   pub named : query_named old name ≡ Some registration
@@ -181,6 +183,27 @@ pub record FaultsAtAnswers (old : State) (name : List ℕ) (lines : List Line) (
   pub registration : Registration
   pub named : query_named old name ≡ Some registration
   pub told : lines ≡ AnswersFault ∷ []
+  pub met : new ≡ with_jobs old (all_beside [] old.jobs)
+
+-- ---- scan
+
+-- `refused 36 2`: the text is no query
+pub record RefusesScan (language : Language) (old : State) (text : List ℕ) (lines : List Line) (new : State) : Type 0 where
+  pub refusal : Refusal
+  pub fault : language.scan_refusal text ≡ Some refusal
+  pub told : lines ≡ ScanRefused refusal.place refusal.kind ∷ []
+  pub same : new ≡ old
+
+-- The rows of the query over the triples of the loads that are committed, and how many they are, as for one that is registered.
+pub record IsScanned (language : Language) (old : State) (text : List ℕ) (lines : List Line) (new : State) : Type 0 where
+  pub good : language.scan_refusal text ≡ None
+  pub told : lines ≡ answer_lines (language.rows text old.triples)
+  pub met : new ≡ with_jobs old (all_beside [] old.jobs)
+
+-- `scan fault`: some locks may have been taken away before
+pub record FaultsAtScan (language : Language) (old : State) (text : List ℕ) (lines : List Line) (new : State) : Type 0 where
+  pub good : language.scan_refusal text ≡ None
+  pub told : lines ≡ ScanFault ∷ []
   pub met : new ≡ with_jobs old (all_beside [] old.jobs)
 
 -- ---- any command
@@ -196,3 +219,4 @@ Reply language old (StepClient client most) lines new = HasNothing old client li
 Reply language old (Crash crashed) lines new = Crashes old crashed lines new
 Reply language old AsksStatus lines new = TellsStatus old lines new ⊎ FaultsAtStatus old lines new
 Reply language old (Answers name) lines new = IsUnknown old name lines new ⊎ IsAnswered language old name lines new ⊎ FaultsAtAnswers old name lines new
+Reply language old (Scan text) lines new = RefusesScan language old text lines new ⊎ IsScanned language old text lines new ⊎ FaultsAtScan language old text lines new

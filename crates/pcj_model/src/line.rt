@@ -22,6 +22,10 @@ pub enum Line<'a> {
     NoQuery(&'a [u8]),
     /// A call of the table failed as an answer was read.
     AnswersFault,
+    /// A text that was to be scanned is refused: the byte of its fault, and the number of the fault's kind.
+    ScanRefused { place: u64, kind: u8 },
+    /// A call of the table failed as a query was scanned.
+    ScanFault,
     /// All timestamps below 2^48 were granted.
     Spent,
     /// A line of the script is refused.

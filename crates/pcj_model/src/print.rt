@@ -2,7 +2,7 @@ ghost use Rattle.std.specs.Prelude.{◌≡◌, ◌++◌, map, OnOk, OnErr};
 ghost use Rattle.std.specs.List.{flat_map};
 ghost use Rattle.pcj_lines.specs.Lines.{ended, client_name, registered_line};
 ghost use Rattle.pcj_script.specs.Kind.{number_of};
-ghost use Rattle.pcj_model.specs.Line.{event_of, line_of, event_text, line_text, steps_line, status_line, script_line, printed, StandsInPart};
+ghost use Rattle.pcj_model.specs.Line.{event_of, line_of, event_text, line_text, steps_line, status_line, scan_refused_line, script_line, printed, StandsInPart};
 
 use crate::event::Event;
 use crate::line::Line;
@@ -31,6 +31,8 @@ pub fn push_line(alloc: Global, out: &mut Bytes, line: Line<'_>) -> Result<(), M
             out.extend_from_pieces(&[b"no query ".as_slice(), name, b"\n".as_slice()])
         }
         Line::AnswersFault => out.extend_from_slice(b"answers fault\n"),
+        Line::ScanRefused { place, kind } => push_scan_refused(alloc, out, place, kind),
+        Line::ScanFault => out.extend_from_slice(b"scan fault\n"),
         Line::Spent => push_spent(out),
         Line::Script(error) => push_refused_line(alloc, out, error),
     }
@@ -98,6 +100,15 @@ fn push_status(alloc: Global, out: &mut Bytes, notifications: u64, locks: u64) -
     let start = format!(in alloc; "notifications {notifications}")?;
     let end = format!(in alloc; " locks {locks}\n")?;
     out.extend_from_pieces(&[start.as_bytes(), end.as_bytes()])
+}
+
+/// Adds `refused AT KIND`.
+fn push_scan_refused(alloc: Global, out: &mut Bytes, place: u64, kind: u8) -> Result<(), Memory>
+    ensures ok { OnOk result (out.new ≡ out.old ++ ended (scan_refused_line place kind)) }
+    ensures err { OnErr result (out.new ≡ out.old) }
+{
+    let text = format!(in alloc; "refused {place} {kind}\n")?;
+    out.extend_from_slice(text.as_bytes())
 }
 
 /// Adds `script LINE KIND`.

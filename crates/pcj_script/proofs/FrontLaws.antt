@@ -5,7 +5,7 @@ use Rattle.pcj_script.specs.declared.error.ScriptKind.TheVariants.{TooLong}
 use Rattle.pcj_script.specs.Lines.{Line, said}
 use Rattle.pcj_script.specs.Words.{words_of}
 use Rattle.pcj_script.specs.Commands.{Command, words_refusal}
-use Rattle.pcj_script.specs.Commands.Command.{Load, Register, StepClient, Crash, Status, Answers}
+use Rattle.pcj_script.specs.Commands.Command.{Load, Register, StepClient, Crash, Status, Answers, Scan}
 use Rattle.pcj_script.specs.Front.{Front, HasFront, is_skipped, BeginsCommand, Follows, HasText, EndsText}
 use Rattle.pcj_script.specs.Front.Front.{NoLine, Skipped, Whole, Open, Refused}
 use Rattle.pcj_script.specs.Reading.{line_opening, words_opening, with_text}
@@ -29,6 +29,7 @@ opened_front (Ok (StepClient client count)) text = Whole (StepClient client coun
 opened_front (Ok (Crash crashed)) text = Whole (Crash crashed) 1
 opened_front (Ok Status) text = Whole Status 1
 opened_front (Ok (Answers name)) text = Whole (Answers name) 1
+opened_front (Ok (Scan query)) text = with_text_front (Scan query) text
 
 abbrev front_of : Line → TextFront → Front
 front_of first text = cond (is_skipped (said first)) Skipped (opened_front (line_opening (said first)) text)
@@ -52,6 +53,8 @@ whole_is first more (StepClient client count) following text begins follows h = 
 whole_is first more (Crash crashed) following text begins follows h = rw (begins.looked_at, opens (said first) (Crash crashed) begins, follows) refl
 whole_is first more Status following text begins follows h = rw (begins.looked_at, opens (said first) Status begins, follows) refl
 whole_is first more (Answers name) following text begins follows h = rw (begins.looked_at, opens (said first) (Answers name) begins, follows) refl
+whole_is first more (Scan query) following text begins follows h =
+    rw (begins.looked_at, opens (said first) (Scan query) begins, one_text_front more text (Ends query following) h follows) refl
 
 text_is : (first : Line) (more : List Line) (command : Command) (text other : TextFront) → BeginsCommand (said first) command → HasText command → HasTextFront more text → HasTextFront more other →
     with_text_front (with_text command []) other ≡ front_of first text
@@ -63,6 +66,8 @@ text_is first more (StepClient client count) text other begins has h o = absurd 
 text_is first more (Crash crashed) text other begins has h o = absurd has
 text_is first more Status text other begins has h o = absurd has
 text_is first more (Answers name) text other begins has h o = absurd has
+text_is first more (Scan query) text other begins has h o =
+    rw (begins.looked_at, opens (said first) (Scan query) begins, one_text_front more text other h o) refl
 
 refused_is : (first : Line) (text : TextFront) (kind : ScriptKind) → is_skipped (said first) ≡ false → line_opening (said first) ≡ Err kind → Refused 0 kind ≡ front_of first text
 refused_is first text kind looked_at opening = rw (looked_at, opening) refl
@@ -139,6 +144,9 @@ opened_stands first more text (Ok (StepClient client count)) h looked_at e = who
 opened_stands first more text (Ok (Crash crashed)) h looked_at e = whole_stands first more _ (command_begins (said first) _ looked_at e) refl
 opened_stands first more text (Ok Status) h looked_at e = whole_stands first more _ (command_begins (said first) _ looked_at e) refl
 opened_stands first more text (Ok (Answers name)) h looked_at e = whole_stands first more _ (command_begins (said first) _ looked_at e) refl
+opened_stands first more text (Ok (Scan query)) h looked_at e =
+    let begins = command_begins (said first) (Scan query) looked_at e in
+    text_stands first more (Scan query) text begins tt h (λ given. record { looked_at = looked_at; short = begins.short; words = begins.words }) (λ given count ends. ends)
 
 front_stands : (first : Line) (more : List Line) (text : TextFront) → HasTextFront more text → HasFront (first ∷ more) (front_of first text)
 front_stands first more text h = by (is_skipped (said first)) refl

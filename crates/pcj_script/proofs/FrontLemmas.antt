@@ -9,7 +9,7 @@ use Rattle.pcj_script.specs.declared.command.Command.TheVariants as sliced
 use Rattle.pcj_script.specs.Lines.{Line, written, all_written, said, IsUsed}
 use Rattle.pcj_script.specs.Words.{words_of}
 use Rattle.pcj_script.specs.Commands.{Command, command_of}
-use Rattle.pcj_script.specs.Commands.Command.{Load, Register, StepClient, Crash, Status, Answers}
+use Rattle.pcj_script.specs.Commands.Command.{Load, Register, StepClient, Crash, Status, Answers, Scan}
 use Rattle.pcj_script.specs.Front.{is_skipped, BeginsCommand, WholeCommand, IsRefused, HasText, Follows, EndsText, PassesLimit}
 use Rattle.pcj_script.specs.Reading.{IsFirstLine, line_opening, begun, with_text}
 use Rattle.pcj_script.specs.Told.{RefusesLine}
@@ -36,14 +36,17 @@ begins_with_text line (StepClient client count) text h = h
 begins_with_text line (Crash crashed) text h = h
 begins_with_text line Status text h = h
 begins_with_text line (Answers name) text h = h
+begins_with_text line (Scan query) text h = record { looked_at = h.looked_at; short = h.short; words = h.words }
 
 text_follows : (more : List Line) (command : Begun) (text : List ℕ) (count : ℕ) → EndsText more text count → Follows more (with_text (begun command) text) count
 text_follows more (begins.Load client) text count h = h
 text_follows more (begins.Register client name) text count h = h
+text_follows more begins.Scan text count h = h
 
 pub has_text : (command : Begun) → HasText (begun command)
 has_text (begins.Load client) = tt
 has_text (begins.Register client name) = tt
+has_text begins.Scan = tt
 
 pub whole_with_text : (first : Line) (more : List Line) (command : Begun) (given : Command) (text : List ℕ) (count size used : ℕ) →
     BeginsCommand (said first) (begun command) → given ≡ with_text (begun command) text → EndsText more text count → IsUsed more count used → size ≡ length (written first) →
@@ -78,6 +81,7 @@ nothing_follows more (sliced.StepClient client count) h = refl
 nothing_follows more (sliced.Crash crashed) h = refl
 nothing_follows more sliced.Status h = refl
 nothing_follows more (sliced.Answers name) h = refl
+nothing_follows more (sliced.Scan text) h = absurd (h tt)
 
 pub whole_without_text : (lines more : List Line) (first : Line) (command : Sliced) (used : ℕ) → lines ≡ first ∷ more → is_skipped (said first) ≡ false →
     line_opening (said first) ≡ Ok (command_of command) → (HasText (command_of command) → ⊥) → used ≡ length (written first) →

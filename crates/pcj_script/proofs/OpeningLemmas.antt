@@ -9,7 +9,7 @@ use Rattle.pcj_script.specs.declared.error.ScriptKind.TheVariants.{UnknownComman
 use Rattle.pcj_script.specs.Words.{words_of}
 use Rattle.pcj_script.specs.Places.{client_of, crashed_of, count_of, is_name}
 use Rattle.pcj_script.specs.Commands.{Command, Begins, words_refusal}
-use Rattle.pcj_script.specs.Commands.Command.{Load, Register, StepClient, Crash, Status, Answers}
+use Rattle.pcj_script.specs.Commands.Command.{Load, Register, StepClient, Crash, Status, Answers, Scan}
 use Rattle.pcj_script.specs.Reading.{with_place, with_text, one_word, two_words, three_words, words_opening, line_opening}
 
 -- ---- a command is begun by its words
@@ -27,9 +27,16 @@ ok_is : (made command : Command) (found : Result Command ScriptKind) → found �
 ok_is made command found e h = let both : Ok made ≡ Ok command = sym e ∙ h in cc
 
 begun_by_one : (word : List ℕ) (command : Command) → one_word word ≡ Ok command → Begins (word ∷ []) command
-begun_by_one word command h =
-    let found = if_ok (same_bytes word (codes "status")) UnknownCommand Status command h in
-    subst (Begins (word ∷ [])) found.1 (ap (λ w. w ∷ []) (same_bytes_are word (codes "status") found.0))
+begun_by_one word command h = by (same_bytes word (codes "status")) (same_bytes word (codes "scan")) refl refl h
+  where
+    is : (name : List ℕ) → same_bytes word name ≡ true → word ∷ [] ≡ name ∷ []
+    is name e = ap (λ w. w ∷ []) (same_bytes_are word name e)
+
+    by : (status scan : Bool) → same_bytes word (codes "status") ≡ status → same_bytes word (codes "scan") ≡ scan →
+        (if status then Ok Status else if scan then Ok (Scan []) else Err UnknownCommand) ≡ Ok command → Begins (word ∷ []) command
+    by true scan s c e = subst (Begins (word ∷ [])) (ok_is _ _ _ refl e) (is (codes "status") s)
+    by false true s c e = subst (Begins (word ∷ [])) (ok_is _ _ _ refl e) (is (codes "scan") c)
+    by false false s c e = absurd cc
 
 begun_by_two : (word other : List ℕ) (command : Command) → two_words word other ≡ Ok command → Begins (word ∷ other ∷ []) command
 begun_by_two word other command h = by (same_bytes word (codes "load")) (same_bytes word (codes "crash")) (same_bytes word (codes "answers")) refl refl refl h
@@ -88,6 +95,7 @@ words_found words (StepClient client count) h = rw (h.2, h.3, h.4) refl
 words_found words (Crash crashed) h = rw (h.1, h.2) refl
 words_found words Status h = rw h refl
 words_found words (Answers name) h = rw (h.0, h.1) refl
+words_found words (Scan text) h = rw h refl
 
 -- ---- words are refused in one way
 
@@ -105,11 +113,12 @@ if_error true kind made = refl
 if_error false kind made = refl
 
 one_error : (word : List ℕ) → words_refusal (word ∷ []) ≡ error_of (one_word word)
-one_error word = by (same_bytes word (codes "status")) refl
+one_error word = by (same_bytes word (codes "status")) (same_bytes word (codes "scan")) refl refl
   where
-    by : (status : Bool) → same_bytes word (codes "status") ≡ status → words_refusal (word ∷ []) ≡ error_of (one_word word)
-    by true s = rw s refl
-    by false s = rw s refl
+    by : (status scan : Bool) → same_bytes word (codes "status") ≡ status → same_bytes word (codes "scan") ≡ scan → words_refusal (word ∷ []) ≡ error_of (one_word word)
+    by true scan s c = rw s refl
+    by false true s c = rw (s, c) refl
+    by false false s c = rw (s, c) refl
 
 two_error : (word other : List ℕ) → words_refusal (word ∷ other ∷ []) ≡ error_of (two_words word other)
 two_error word other = by (same_bytes word (codes "load")) (same_bytes word (codes "crash")) (same_bytes word (codes "answers")) refl refl refl

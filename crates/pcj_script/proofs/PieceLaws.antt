@@ -7,7 +7,7 @@ use Rattle.std.proofs.lemmas.Bool.{cases_Bool}
 use Rattle.std.proofs.lemmas.List.Elements.{filter-append}
 use Rattle.pcj_script.specs.Lines.{Line, onto_line, script_lines, lines_given, written, all_written, IsUsed}
 use Rattle.pcj_script.specs.Commands.{Command}
-use Rattle.pcj_script.specs.Commands.Command.{Load, Register, StepClient, Crash, Status, Answers}
+use Rattle.pcj_script.specs.Commands.Command.{Load, Register, StepClient, Crash, Status, Answers, Scan}
 use Rattle.pcj_script.specs.Front.{Front, HasFront, Follows, EndsText}
 use Rattle.pcj_script.specs.Front.Front.{NoLine, Skipped, Whole, Open, Refused}
 use Rattle.pcj_script.specs.Laws.{IsSettled, StandsWhateverFollows, GoesOnBehind}
@@ -196,6 +196,7 @@ follows_still lines rest (StepClient client steps) count h = h
 follows_still lines rest (Crash crashed) count h = h
 follows_still lines rest Status count h = h
 follows_still lines rest (Answers name) count h = h
+follows_still lines rest (Scan text) count h = text_stays lines rest text count h
 
 front_stays : (lines rest : List Line) (front : Front) → IsSettled front → HasFront lines front → HasFront (lines ++ rest) front
 front_stays lines rest NoLine s h = absurd s

@@ -17,6 +17,7 @@ pub data Command : Type 0 where
   Crash : (crashed : Crashed) → Command
   Status : Command
   Answers : (name : List ℕ) → Command
+  Scan : (text : List ℕ) → Command
 
 abbrev pub command_of : Sliced → Command
 command_of (sliced.Load client document) = Load client document.now
@@ -25,6 +26,7 @@ command_of (sliced.StepClient client count) = StepClient client count
 command_of (sliced.Crash crashed) = Crash crashed
 command_of sliced.Status = Status
 command_of (sliced.Answers name) = Answers name.now
+command_of (sliced.Scan text) = Scan text.now
 
 -- the words of a command's first line, whatever its text
 abbrev pub Begins : List (List ℕ) → Command → Type 0
@@ -36,6 +38,7 @@ Begins words (StepClient client count) =
 Begins words (Crash crashed) = (actor : List ℕ) × (words ≡ codes "crash" ∷ actor ∷ []) × (crashed_of actor ≡ Some crashed)
 Begins words Status = words ≡ codes "status" ∷ []
 Begins words (Answers name) = (words ≡ codes "answers" ∷ name ∷ []) × (is_name name ≡ true)
+Begins words (Scan text) = words ≡ codes "scan" ∷ []
 
 -- ---- refused words
 
@@ -71,7 +74,8 @@ forms =
     record { word = codes "step"; places = AClient ∷ ACount ∷ [] } ∷
     record { word = codes "crash"; places = ACrashed ∷ [] } ∷
     record { word = codes "status"; places = [] } ∷
-    record { word = codes "answers"; places = AName ∷ [] } ∷ []
+    record { word = codes "answers"; places = AName ∷ [] } ∷
+    record { word = codes "scan"; places = [] } ∷ []
 
 abbrev pub are_as_many : List Place → List (List ℕ) → Bool
 are_as_many [] [] = true

@@ -6,7 +6,7 @@ use Rattle.pcj_script.specs.declared.error.ScriptKind.TheVariants.{TooLong}
 use Rattle.pcj_script.specs.Lines.{Line, all_written, said}
 use Rattle.pcj_script.specs.Words.{words_of}
 use Rattle.pcj_script.specs.Commands.{Command, Begins, words_refusal}
-use Rattle.pcj_script.specs.Commands.Command.{Load, Register, StepClient, Crash, Status, Answers}
+use Rattle.pcj_script.specs.Commands.Command.{Load, Register, StepClient, Crash, Status, Answers, Scan}
 
 -- the most bytes that a command line may have, and the most that a text may have: 1 KiB and 16 MiB
 abbrev pub line_limit : ℕ
@@ -68,6 +68,7 @@ Follows more (StepClient client steps) count = count ≡ 0
 Follows more (Crash crashed) count = count ≡ 0
 Follows more Status count = count ≡ 0
 Follows more (Answers name) count = count ≡ 0
+Follows more (Scan text) count = EndsText more text count
 
 abbrev pub HasText : Command → Type 0
 HasText (Load client document) = Unit {0}
@@ -76,6 +77,7 @@ HasText (StepClient client count) = ⊥
 HasText (Crash crashed) = ⊥
 HasText Status = ⊥
 HasText (Answers name) = ⊥
+HasText (Scan text) = Unit {0}
 
 pub record WholeCommand (lines : List Line) (command : Command) (count : ℕ) : Type 0 where
   pub first : Line

@@ -10,7 +10,7 @@ use Rattle.pcj_script.specs.declared.opening.Opening.TheVariants as openings
 use Rattle.pcj_script.specs.declared.words.Words.{Words}
 use Rattle.pcj_script.specs.declared.words.Words.TheVariants as words
 use Rattle.pcj_script.specs.Commands.{Command, command_of}
-use Rattle.pcj_script.specs.Commands.Command.{Load, Register, StepClient, Crash, Status, Answers}
+use Rattle.pcj_script.specs.Commands.Command.{Load, Register, StepClient, Crash, Status, Answers, Scan}
 use Rattle.pcj_script.specs.Front.{HasText}
 use Rattle.pcj_script.specs.Places.{client_of, crashed_of, count_of, is_name}
 use Rattle.pcj_script.specs.Words.{words_of}
@@ -38,6 +38,7 @@ HasWords found words.More = 3 < length found
 abbrev pub begun : Begun → Command
 begun (begins.Load client) = Load client []
 begun (begins.Register client name) = Register client name.now []
+begun begins.Scan = Scan []
 
 -- the command that was begun, without its text
 abbrev pub opened : Opening → Command
@@ -57,6 +58,7 @@ with_text (StepClient client count) text = StepClient client count
 with_text (Crash crashed) text = Crash crashed
 with_text Status text = Status
 with_text (Answers name) text = Answers name
+with_text (Scan query) text = Scan text
 
 -- what stands in a place, or the refusal of what doesn't fit there
 abbrev pub with_place : {A : Type 0} → Option A → ScriptKind → (A → Result Command ScriptKind) → Result Command ScriptKind
@@ -64,7 +66,10 @@ with_place None kind go = Err kind
 with_place (Some found) kind go = go found
 
 abbrev pub one_word : List ℕ → Result Command ScriptKind
-one_word command = if same_bytes command (codes "status") then Ok Status else Err UnknownCommand
+one_word command =
+    if same_bytes command (codes "status") then Ok Status else
+    if same_bytes command (codes "scan") then Ok (Scan []) else
+    Err UnknownCommand
 
 abbrev pub two_words : List ℕ → List ℕ → Result Command ScriptKind
 two_words command word =

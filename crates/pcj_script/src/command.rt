@@ -35,4 +35,8 @@ pub enum Command<'a> {
     Status,
     /// Asks for the answers of the query that has the name.
     Answers(&'a [u8]),
+    /// Asks for the answers of the query of a text (SPARQL 1.1 Query, section 4), which needn't be registered.
+    Scan {
+        text: &'a [u8],
+    },
 }

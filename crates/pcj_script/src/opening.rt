@@ -23,6 +23,7 @@ pub(crate) enum Opening<'a> {
 pub(crate) enum Begun<'a> {
     Load { client: u8 },
     Register { client: u8, name: &'a [u8] },
+    Scan,
 }
 
 impl<'a> Begun<'a> {
@@ -39,6 +40,7 @@ impl<'a> Begun<'a> {
                 document: text,
             },
             Begun::Register { client, name } => Command::Register { client, name, text },
+            Begun::Scan => Command::Scan { text },
         }
     }
 }
@@ -67,6 +69,9 @@ fn one_word(command: &[u8]) -> Result<Opening<'_>, ScriptKind>
 {
     if command == b"status".as_slice() {
         return Ok(Opening::Whole(Command::Status));
+    }
+    if command == b"scan".as_slice() {
+        return Ok(Opening::Begun(Begun::Scan));
     }
     Err(ScriptKind::UnknownCommand)
 }

@@ -41,6 +41,7 @@ fn alone(kind: &str) -> Result<Line<'_>, Unanswered> {
         "oracle_crashed" => Ok(Line::OracleCrashed),
         "status_fault" => Ok(Line::StatusFault),
         "answers_fault" => Ok(Line::AnswersFault),
+        "scan_fault" => Ok(Line::ScanFault),
         "spent" => Ok(Line::Spent),
         _ => Err(Unanswered::NoCase),
     }
@@ -76,6 +77,10 @@ fn of_two<'a>(kind: &str, first: &Bytes, second: &Bytes) -> Result<Line<'a>, Una
         "status" => Ok(Line::Status {
             notifications: number(first)?,
             locks: number(second)?,
+        }),
+        "scan_refused" => Ok(Line::ScanRefused {
+            place: number(first)?,
+            kind: small(second)?,
         }),
         "script" => Ok(Line::Script(ScriptError {
             line: number(first)?,

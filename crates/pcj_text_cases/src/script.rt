@@ -122,6 +122,10 @@ fn command(out: &mut Answer, command: Command<'_>) -> Result<(), Unanswered> {
             out.word("answers")?;
             out.bytes(name)
         }
+        Command::Scan { text } => {
+            out.word("scan")?;
+            out.bytes(text)
+        }
     }
 }
 
