@@ -1,3 +1,4 @@
+pub mod EndingLaws
 pub mod JoinLaws
 pub mod LineLaws
 pub mod ReplyLaws

@@ -1,12 +1,12 @@
 -- How a run of a script ends: what is written then, and the state that is left.
-use Rattle.std.specs.Prelude.{◌≡◌, ◌⊎◌, ℕ, false, List, [], ◌∷◌, ◌++◌, Some, None}
+use Rattle.std.specs.Prelude.{◌≡◌, ◌⊎◌, ℕ, Bool, false, List, [], ◌∷◌, ◌++◌, Some, None}
 use Rattle.pcj_ntriples.specs.declared.kind.NtKind.{NtKind}
 use Rattle.pcj_ntriples.specs.Document.{DocumentFault}
 use Rattle.pcj_script.specs.declared.error.ScriptKind.{ScriptKind}
 use Rattle.pcj_script.specs.Commands.{Command}
 use Rattle.pcj_script.specs.Commands.Command.{Load, Register, StepClient, Crash, Status as AsksStatus, Answers, Scan}
-use Rattle.pcj_script.specs.Script.{Ending as ScriptEnding}
-use Rattle.pcj_script.specs.Script.Ending.{End, RefusedAt}
+use Rattle.pcj_script.specs.Script.{IsRead, Ending as ScriptEnding}
+use Rattle.pcj_script.specs.Script.Ending.{End, RefusedAt, CutOff}
 use Rattle.pcj_model.specs.declared.ending.Ending.{Ending}
 use Rattle.pcj_model.specs.declared.ending.Ending.TheVariants.{Ended, Refused, SourceFault, SinkFault, OutOfMemory, Spent, TableFault}
 use Rattle.pcj_model.specs.Job.{Job}
@@ -126,15 +126,25 @@ StopsAtWrite language start commands script text end =
 
 -- ---- all endings
 
--- The script has these commands, and then its end or a refused line; its run ends so, has written this text, and leaves this
--- state. Where the script couldn't be read to its end, its commands are those that stand whole in what was read.
+-- What was read of the script is these commands, and then its end, a refused line, or what no command can be told of; its run
+-- ends so, has written this text, and leaves this state. Where the script couldn't be read to its end, the commands that stand
+-- whole in what was read are carried out.
 abbrev pub Ends : Language → State → List Command → ScriptEnding → Ending → List ℕ → State → Type 0
 Ends language start commands script Ended text end = (script ≡ End) × Tells language start commands [] text end
 Ends language start commands script (Refused error) text end =
     (script ≡ RefusedAt error.line error.kind) × Tells language start commands (Script error.line error.kind ∷ []) text end
-Ends language start commands script SourceFault text end = Tells language start commands [] text end
+Ends language start commands script SourceFault text end = (script ≡ CutOff) × Tells language start commands [] text end
 Ends language start commands script SinkFault text end = StopsAtWrite language start commands script text end
 Ends language start commands script OutOfMemory text end =
     StopsBetween language start commands text end ⊎ StopsWorking language start commands text end ⊎ StopsAtWrite language start commands script text end
 Ends language start commands script Spent text end = RunsOut language start commands text end
 Ends language start commands script TableFault text end = (text ≡ []) × (end ≡ start)
+
+-- ---- runs of what was read
+
+-- These bytes of a script were read, all of it or not. Its run ends so, has written this text, and leaves this state.
+pub record RunEnds (language : Language) (start : State) (all : Bool) (bytes : List ℕ) (ending : Ending) (text : List ℕ) (end : State) : Type 0 where
+  pub commands : List Command
+  pub script : ScriptEnding
+  pub read : IsRead all bytes commands script
+  pub ends : Ends language start commands script ending text end

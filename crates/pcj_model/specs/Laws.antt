@@ -8,7 +8,9 @@ use Rattle.pcj_model.specs.Job.{Job, StepsReply}
 use Rattle.pcj_model.specs.State.{State}
 use Rattle.pcj_model.specs.Reply.{Language, Reply}
 use Rattle.pcj_model.specs.Run.{Run, all_lines}
-use Rattle.pcj_model.specs.Ending.{Tells}
+use Rattle.pcj_model.specs.declared.ending.Ending.{Ending}
+use Rattle.pcj_model.specs.declared.ending.Ending.TheVariants.{SourceFault}
+use Rattle.pcj_model.specs.Ending.{Tells, RunEnds}
 use Rattle.pcj_model.specs.Line.{Event, Line, line_text, printed}
 use Rattle.pcj_model.specs.Line.Event.{Loaded, Registered, Busy, Refused, Committed, Done, Aborted, Taken, Nothing, Fault, Steps, Crashed}
 use Rattle.pcj_model.specs.Line.Line.{Client, AllCrashed, OracleCrashed, Status, StatusFault, Row, Rows, NoQuery, AnswersFault, ScanRefused, ScanFault, Spent, Script}
@@ -184,3 +186,8 @@ abbrev pub EndsAreTold : Type 0
 EndsAreTold = (language : Language) (start : State) (commands : List Command) (closing : List Line) (text : List ℕ) (end other : State) →
     (a : Tells language start commands closing text end) (b : Tells language start commands closing text other) →
     AllByRecursion IsClear (all_lines a.transcript ++ closing) → AllByRecursion IsClear (all_lines b.transcript ++ closing) → end ≡ other
+
+-- a run that ended before its script was read to the end, and not for want of more, is a run of the script, whatever follows
+abbrev pub EndsStand : Type 0
+EndsStand = (language : Language) (start : State) (all : Bool) (bytes more : List ℕ) (ending : Ending) (text : List ℕ) (end : State) →
+    RunEnds language start false bytes ending text end → (ending ≡ SourceFault → ⊥) → RunEnds language start all (bytes ++ more) ending text end

@@ -74,7 +74,7 @@ pub record RefusesQuery (language : Language) (old : State) (client : ℕ) (text
   pub same : new ≡ old
 
 -- the text is such a query, and two numbers are drawn for it, one after the other
-pub record IsRead (language : Language) (old : State) (client : ℕ) (text : List ℕ) (number : ℕ) : Type 0 where
+pub record IsAccepted (language : Language) (old : State) (client : ℕ) (text : List ℕ) (number : ℕ) : Type 0 where
   pub free : old.jobs client ≡ None
   pub good : language.register_refusal text ≡ None
   pub drawn : IsTimestampAbove old.last number
@@ -83,7 +83,7 @@ pub record IsRead (language : Language) (old : State) (client : ℕ) (text : Lis
 -- `c1 register 3 q`, `c1 committed 4`: no query has the name
 pub record Registers (language : Language) (old : State) (client : ℕ) (name text : List ℕ) (lines : List Line) (new : State) : Type 0 where
   pub number : ℕ
-  pub query : IsRead language old client text number
+  pub query : IsAccepted language old client text number
   pub unnamed : query_named old name ≡ None
   pub told : lines ≡ Client client (Registered number name) ∷ Client client (Committed (number + 1)) ∷ []
   pub registered : new ≡ with_query old name number text
@@ -91,7 +91,7 @@ pub record Registers (language : Language) (old : State) (client : ℕ) (name te
 -- `c1 register 5 q`, `c1 taken`: a query has the name
 pub record FindsTaken (language : Language) (old : State) (client : ℕ) (name text : List ℕ) (lines : List Line) (new : State) : Type 0 where
   pub number : ℕ
-  pub query : IsRead language old client text number
+  pub query : IsAccepted language old client text number
   pub holder : Registration
   pub named : query_named old name ≡ Some holder
   pub told : lines ≡ Client client (Registered number name) ∷ Client client Taken ∷ []

@@ -1,4 +1,4 @@
-ghost use Rattle.pcj_model.specs.Laws.{StandApart, TextsTell, AreTold, RepliesTell, LoadsJoinWhole, CanBeAnswered, TranscriptsTell, PrintsTell, RunsGoOn, RunsHaveFronts, NothingIsLeft, TimestampsRise, EndsAreTold};
+ghost use Rattle.pcj_model.specs.Laws.{StandApart, TextsTell, AreTold, RepliesTell, LoadsJoinWhole, CanBeAnswered, TranscriptsTell, PrintsTell, RunsGoOn, RunsHaveFronts, NothingIsLeft, TimestampsRise, EndsAreTold, EndsStand};
 
 /// The lines of a print are the lines that were printed, one after another: no line has an LF inside, where no name and no
 /// row has one.
@@ -58,4 +58,10 @@ pub fn timestamps_rise()
 /// Where a run was told whole, what is written settles the state that it leaves: the triples of its committed loads.
 pub fn endings_are_told()
     ensures { EndsAreTold }
+{}
+
+/// Where a run ended before its script was read to the end, by a refused line, a fault of the sink, want of memory or the last
+/// timestamp, the rest of the script makes no difference: it is a run of the whole script.
+pub fn endings_stand()
+    ensures { EndsStand }
 {}

@@ -4,6 +4,7 @@ pub mod LineLemmas
 pub mod NumberLemmas
 pub mod OpeningLemmas
 pub mod PieceLaws
+pub mod ReadingLaws
 pub mod ScriptLaws
 pub mod TextEnds
 pub mod TextLemmas

@@ -166,7 +166,7 @@ ended_stay (line ∷ lines) = elim (cases_Bool line.is_ended) [
   | inr lacks ↦ ap ended_of (open_first line lines lacks) ∙ ended_stay lines ∙ sym (open_first line lines lacks)
 ]
 
-given_more : (ended : Bool) (bytes more : List ℕ) → (rest : List Line) × (lines_given ended (bytes ++ more) ≡ lines_given false bytes ++ rest)
+pub given_more : (ended : Bool) (bytes more : List ℕ) → (rest : List Line) × (lines_given ended (bytes ++ more) ≡ lines_given false bytes ++ rest)
 given_more true bytes more = goes_on_with bytes more
 given_more false bytes more =
     let whole = goes_on_with bytes more in (
@@ -198,7 +198,7 @@ follows_still lines rest Status count h = h
 follows_still lines rest (Answers name) count h = h
 follows_still lines rest (Scan text) count h = text_stays lines rest text count h
 
-front_stays : (lines rest : List Line) (front : Front) → IsSettled front → HasFront lines front → HasFront (lines ++ rest) front
+pub front_stays : (lines rest : List Line) (front : Front) → IsSettled front → HasFront lines front → HasFront (lines ++ rest) front
 front_stays lines rest NoLine s h = absurd s
 front_stays lines rest Skipped s h = (h.0, h.1 ++ rest, ap (λ ls. ls ++ rest) h.2, h.3)
 front_stays lines rest (Whole command count) s h = record {

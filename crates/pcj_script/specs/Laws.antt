@@ -1,10 +1,11 @@
 -- Each script has exactly one reading, and what stands at its front doesn't change when more of it comes.
-use Rattle.std.specs.Prelude.{◌≡◌, ℕ, Bool, false, List, ◌++◌, drop}
+use Rattle.std.specs.Prelude.{◌≡◌, ◌⊎◌, ℕ, Bool, false, List, ◌++◌, drop}
 use Rattle.pcj_script.specs.Lines.{Line, lines_given, script_lines, all_written, IsUsed}
 use Rattle.pcj_script.specs.Commands.{Command}
 use Rattle.pcj_script.specs.Front.{Front, HasFront}
 use Rattle.pcj_script.specs.Front.Front.{NoLine, Skipped, Whole, Open, Refused}
-use Rattle.pcj_script.specs.Script.{Ending, IsScript}
+use Rattle.pcj_script.specs.Script.{Ending, IsRead}
+use Rattle.pcj_script.specs.Script.Ending.{CutOff}
 
 -- ---- one front
 
@@ -38,11 +39,22 @@ GoesOnBehind = (ended : Bool) (bytes : List ℕ) (count used : ℕ) → IsUsed (
 abbrev pub IsWrittenBack : Type 0
 IsWrittenBack = (bytes : List ℕ) → all_written (script_lines bytes) ≡ bytes
 
--- ---- one script
+-- ---- one reading
 
 abbrev pub HasOneReading : Type 0
-HasOneReading = (bytes : List ℕ) (commands others : List Command) (ending other : Ending) →
-    IsScript bytes commands ending → IsScript bytes others other → (commands ≡ others) × (ending ≡ other)
+HasOneReading = (all : Bool) (bytes : List ℕ) (commands others : List Command) (ending other : Ending) →
+    IsRead all bytes commands ending → IsRead all bytes others other → (commands ≡ others) × (ending ≡ other)
 
 abbrev pub HasReading : Type 0
-HasReading = (bytes : List ℕ) → (commands : List Command) × (ending : Ending) × IsScript bytes commands ending
+HasReading = (all : Bool) (bytes : List ℕ) → (commands : List Command) × (ending : Ending) × IsRead all bytes commands ending
+
+-- the same commands and ending, or else more commands where the first ones were cut off
+abbrev pub GoesOnFrom : List Command → Ending → List Command → Ending → Type 0
+GoesOnFrom commands ending others other =
+    ((commands ≡ others) × (ending ≡ other)) ⊎ ((later : List Command) × (ending ≡ CutOff) × (others ≡ commands ++ later))
+
+-- the commands of the bytes that were read first are those with which each reading of more bytes begins, and a line that is
+-- refused in them is refused there
+abbrev pub CommandsStand : Type 0
+CommandsStand = (all : Bool) (bytes more : List ℕ) (commands others : List Command) (ending other : Ending) →
+    IsRead false bytes commands ending → IsRead all (bytes ++ more) others other → GoesOnFrom commands ending others other

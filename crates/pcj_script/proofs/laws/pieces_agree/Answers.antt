@@ -1,4 +1,5 @@
 use Rattle.pcj_script.proofs.PieceLaws.{written_back, stands_still, goes_on_behind}
+use Rattle.pcj_script.proofs.ReadingLaws.{commands_stand}
 use Rattle.pcj_script.proofs.laws.pieces_agree.Goals as goal
 
 pub returns-clause-stands : goal.returns-clause-stands
@@ -9,3 +10,6 @@ returns-clause-behind c = goes_on_behind
 
 pub returns-clause-written : goal.returns-clause-written
 returns-clause-written c = written_back
+
+pub returns-clause-commands : goal.returns-clause-commands
+returns-clause-commands c = commands_stand
