@@ -23,7 +23,7 @@ use Rattle.pcj_recover.specs.Steps.{Steps as RecoverySteps, KeepPlain}
 use Rattle.pcj_actor.specs.declared.task.Task.{Task}
 use Rattle.pcj_txn.specs.declared.event.TxnEvent.{TxnEvent}
 use Rattle.pcj_txn.specs.declared.event.TxnEvent.TheVariants.{MetLock}
-use Rattle.pcj_txn.specs.Errors.{step_calls, MakesStepCalls}
+use Rattle.pcj_txn.specs.Errors.{step_calls, MakesOneCall, MakesStepCalls}
 use Rattle.pcj_txn.specs.Progress.{Progress as TxnProgress, due}
 use Rattle.pcj_table.specs.Calls.{counted}
 use Rattle.pcj_txn.specs.Steps.{Steps as TxnSteps, MeetsLock, Stays}
@@ -233,6 +233,13 @@ recovery_keeps_number oracle table table' self new plain order moved =
 pub up_to_one : (before now : ℕ) → (now ≡ before) ⊎ (now ≡ counted before) → MakesUpTo 1 before now
 up_to_one before now (inl none) = record { calls = 0; made = none; within = omega arith }
 up_to_one before now (inr one) = record { calls = 1; made = one; within = omega arith }
+
+pub one_at_most : (oracle : Option Block) (before now : ℕ) → (now ≡ before) ⊎ (now ≡ counted before) → MakesOneCall oracle oracle before now
+one_at_most oracle before now (inl none) = record { calls = 0; made = none; within = omega arith }
+one_at_most oracle before now (inr one) = record { calls = 1; made = one; within = omega arith }
+
+pub no_call : (oracle : Option Block) (made : ℕ) → MakesOneCall oracle oracle made made
+no_call oracle made = record { calls = 0; made = refl; within = omega arith }
 
 -- a read makes one call at most
 pub read_calls : (self : Progress) (task : Task) (oracle : Option Block) (table : Table) (before now : ℕ) → self.task ≡ task → IsReading task → (now ≡ before) ⊎ (now ≡ counted before) → MakesUpTo (task_calls self.task oracle table) before now

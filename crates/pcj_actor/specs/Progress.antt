@@ -28,7 +28,7 @@ use Rattle.pcj_recover.specs.Steps.{Steps as RecoverySteps}
 use Rattle.pcj_txn.specs.declared.event.TxnEvent.{TxnEvent}
 use Rattle.pcj_oracle.specs.Calls.{after_calls}
 use Rattle.pcj_txn.specs.Errors.{step_calls}
-use Rattle.pcj_txn.specs.Progress.{Progress as TxnProgress, due}
+use Rattle.pcj_txn.specs.Progress.{Progress as TxnProgress, Draw, due}
 use Rattle.pcj_txn.specs.Steps.{Steps as TxnSteps}
 use Rattle.pcj_actor.specs.declared.event.ActorEvent.{ActorEvent}
 use Rattle.pcj_actor.specs.declared.event.ActorEvent.TheVariants as event
@@ -88,6 +88,10 @@ IsReading (Get key) = Unit {0}
 IsReading (Next range) = Unit {0}
 IsReading (Put key plain) = ⊥
 IsReading (Write progress) = ⊥
+
+-- a transaction is carried out whose next step draws its commit
+abbrev pub IsDrawing : Task → Type 0
+IsDrawing task = (txn : TxnProgress) × (task ≡ Write txn) × (due txn ≡ Draw)
 
 -- with one more answer, after which nothing is to be carried out, or with the recovery of a lock that was met
 abbrev pub with_held : Progress → Answer → Progress

@@ -3,7 +3,7 @@ ghost use Rattle.pcj_table.specs.declared.lock.Lock.{Lock};
 ghost use Rattle.pcj_table.specs.Calls.{counted, HasTableCause};
 ghost use Rattle.pcj_table.specs.declared.error.TableError.TheVariants as table_error;
 ghost use Rattle.pcj_txn.specs.declared.error.TxnError.TheVariants.{Spent};
-ghost use Rattle.pcj_txn.specs.Errors.{HasTxnCause};
+ghost use Rattle.pcj_txn.specs.Errors.{HasTxnCause, MakesOneCall};
 ghost use Rattle.pcj_table.specs.Table.{Key, row_at};
 ghost use Rattle.pcj_oracle.specs.Clock.{IsClock, clock_key, next_number};
 ghost use Rattle.pcj_oracle.specs.Draw.{Keeps};
@@ -17,7 +17,7 @@ ghost use Rattle.pcj_moves.specs.Moves.{Makes, Plan};
 ghost use Rattle.pcj_txn.specs.Progress.{new_progress as new_txn};
 ghost use Rattle.pcj_actor.specs.declared.task.Task.TheVariants as doing;
 ghost use Rattle.pcj_actor.specs.declared.told.Told.TheVariants.{Answered, Met};
-ghost use Rattle.pcj_actor.specs.Progress.{new_progress, Moved, Carries, IsReading, Recovers, Tells, is_recovery, told_event, MakesUpTo, task_calls, calls_of, with_task, with_held, with_met};
+ghost use Rattle.pcj_actor.specs.Progress.{new_progress, Moved, Carries, IsReading, Recovers, Tells, is_recovery, told_event, MakesUpTo, task_calls, calls_of, with_task, with_held, with_met, IsDrawing};
 
 use crate::ActorEvent;
 use crate::put::put_plain;
@@ -134,10 +134,12 @@ impl Actor {
 
         // When each error comes.
         ensures spent { IsErrOf result Spent → next_number oracle.old (T.rows table.old) ≡ 2 ^ 48 }
+        ensures spent_draw { IsErrOf result Spent → IsDrawing self.old.task }
         ensures cause { HasTxnCause (T.failures table.old) (T.failures table.new) result }
 
         // The calls of the table.
         ensures calls { MakesUpTo (calls_of self.old oracle.old (T.rows table.old)) (T.made table.old) (T.made table.new) }
+        ensures one { MakesOneCall oracle.old oracle.new (T.made table.old) (T.made table.new) }
     {
         match self.recover(table)? {
             Some(event) => Ok(ActorEvent::Recovers(event)),
@@ -183,8 +185,10 @@ impl Actor {
         ensures kept { OnErr result (Keeps oracle.old (T.rows table.old) oracle.new (T.rows table.new)) }
         ensures clock { IsClock oracle.new (T.rows table.new) }
         ensures spent { IsErrOf result Spent → next_number oracle.old (T.rows table.old) ≡ 2 ^ 48 }
+        ensures spent_draw { IsErrOf result Spent → IsDrawing self.old.task }
         ensures cause { HasTxnCause (T.failures table.old) (T.failures table.new) result }
         ensures calls { MakesUpTo (task_calls self.old.task oracle.old (T.rows table.old)) (T.made table.old) (T.made table.new) }
+        ensures one { MakesOneCall oracle.old oracle.new (T.made table.old) (T.made table.new) }
     {
         match &mut self.task {
             Task::Rest => Ok(ActorEvent::Rests),

@@ -31,6 +31,7 @@ begins_empty load triples progress writes is none begun = subst (λ p. IsAtWork 
   load = is;
   reads = tt;
   transaction = refl;
+  start = refl;
   task = (refl, ap length (sym none), none_absent triples);
 })
 
@@ -39,6 +40,7 @@ begins load triples progress writes is some begun none = subst (λ p. IsAtWork p
   load = is;
   reads = tt;
   transaction = refl;
+  start = tt;
   task = (refl, longer triples some, none ∙ none_absent triples);
 })
   where
@@ -61,6 +63,7 @@ asked before after triples writes more kept len triple key work none found is ad
   load = work.load;
   reads = work.reads;
   transaction = refl;
+  start = tt;
   task = by before.task work.task;
 })
   where
@@ -140,6 +143,7 @@ reads_on before after triples answer writes kept old work has next more = subst 
   load = work.load;
   reads = has.reads;
   transaction = has.nothing;
+  start = tt;
   task = (refl, less (λ e. more (ap (λ (p : Progress). length p.actor.answers) next ∙ e)), has.writes_are);
 })
   where
@@ -153,6 +157,7 @@ writes_all before held after triples answer writes left kept old work has next a
   load = subst (λ (p : Progress). IsLoad p.actor.start triples) (sym next) work.load;
   reads = subst (λ (p : Progress). AreReadOf triples p.actor.answers) (sym next) has.reads;
   transaction = refl;
+  start = refl;
   task = (refl, all, has.writes_are ∙ ap (λ (p : Progress). load_writes (absent_of triples p.actor.answers)) (sym next));
 })
 

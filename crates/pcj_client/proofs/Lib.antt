@@ -1,3 +1,4 @@
 pub mod JobLemmas
 pub mod StepLemmas
 pub mod SoundLemmas
+pub mod MoveLemmas

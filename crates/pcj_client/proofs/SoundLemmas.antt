@@ -44,7 +44,7 @@ nothing_read (Put key plain) reading = absurd reading
 nothing_read (Writes progress) reading = absurd reading
 
 -- the plan of a load that carries its writes out
-plan_of : (progress : Progress) (triples : List Triple) (writes : List Write) (kept : Option ℕ) (txn : TxnProgress) → IsAtWork progress triples writes kept → progress.task ≡ Writes txn →
+pub plan_of : (progress : Progress) (triples : List Triple) (writes : List Write) (kept : Option ℕ) (txn : TxnProgress) → IsAtWork progress triples writes kept → progress.task ≡ Writes txn →
     IsLoadPlan progress.actor.start progress.actor.answers progress.actor.transaction.writes triples
 plan_of progress triples writes kept txn work is = let at = subst (λ t. IsTask t progress.actor triples writes kept) is work.task in record {
   load = work.load;
@@ -66,7 +66,7 @@ planned progress triples writes kept work = by progress.task refl work.task
     by (Put key plain) is at = absurd at
     by (Writes txn) is at = inr (triples, plan_of progress triples writes kept txn work is)
 
-no_plain : (progress : Progress) (triples : List Triple) (writes : List Write) (kept : Option ℕ) (rows : Rows) → IsAtWork progress triples writes kept → ReadsNoPlain progress.task rows
+pub no_plain : (progress : Progress) (triples : List Triple) (writes : List Write) (kept : Option ℕ) (rows : Rows) → IsAtWork progress triples writes kept → ReadsNoPlain progress.task rows
 no_plain progress triples writes kept rows work = by progress.task work.task
   where
     by : (task : Task) → IsTask task progress.actor triples writes kept → ReadsNoPlain task rows
@@ -85,7 +85,7 @@ puts_nothing progress triples writes kept key plain work may = by may
     by (inl clock) = clock
     by (inr puts) = absurd (subst (λ t. IsTask t progress.actor triples writes kept) puts work.task)
 
-steady : (progress : Progress) (triples : List Triple) (writes : List Write) (kept : Option ℕ) (moves : List Move) → IsAtWork progress triples writes kept → AreAllStepMoves progress.task moves → AreSteady moves
+pub steady : (progress : Progress) (triples : List Triple) (writes : List Write) (kept : Option ℕ) (moves : List Move) → IsAtWork progress triples writes kept → AreAllStepMoves progress.task moves → AreSteady moves
 steady progress triples writes kept [] work all = tt
 steady progress triples writes kept (Plan new ∷ moves) work all = absurd all.0
 steady progress triples writes kept (Prewrite write ∷ moves) work all = (refl, tt, steady progress triples writes kept moves work all.1)

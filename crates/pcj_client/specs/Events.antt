@@ -1,13 +1,15 @@
 -- What a step of a load tells.
-use Rattle.std.specs.Prelude.{◌≡◌, ◌⊎◌, ℕ, false, true, is_some, if◌then◌else◌, List, ◌∷◌, ◌++◌, Option, Some, None}
+use Rattle.std.specs.Prelude.{◌≡◌, ◌⊎◌, ◌≤◌, ◌+◌, ℕ, false, true, is_some, if◌then◌else◌, List, [], ◌∷◌, ◌++◌, length, Option, Some, None}
 use Rattle.pcj_term.specs.declared.triple.Triple.{Triple}
 use Rattle.pcj_table.specs.Table.{Table, row_at}
+use Rattle.pcj_oracle.specs.Clock.{next_number}
 use Rattle.pcj_oracle.specs.declared.block.Block.{Block}
 use Rattle.pcj_moves.specs.Actors.{Actor}
+use Rattle.pcj_moves.specs.Moves.{Makes, Move}
 use Rattle.pcj_txn.specs.declared.event.TxnEvent.{TxnEvent}
 use Rattle.pcj_txn.specs.declared.event.TxnEvent.TheVariants as txn
 use Rattle.pcj_txn.specs.Errors.{step_calls}
-use Rattle.pcj_txn.specs.Progress.{Progress as TxnProgress, due}
+use Rattle.pcj_txn.specs.Progress.{Progress as TxnProgress, Draw, due}
 use Rattle.pcj_txn.specs.Steps.{Steps as TxnSteps}
 use Rattle.pcj_actor.specs.StepLaws.{state_of}
 use Rattle.pcj_table.specs.Table.{Key}
@@ -16,6 +18,7 @@ use Rattle.pcj_mvcc.specs.Times.{TimesInOrder}
 use Rattle.pcj_moves.specs.Recoveries.{new_recovery}
 use Rattle.pcj_actor.specs.declared.event.ActorEvent.{ActorEvent}
 use Rattle.pcj_actor.specs.declared.event.ActorEvent.TheVariants as actor
+use Rattle.pcj_fit.specs.Laws.{WritesClock}
 use Rattle.pcj_fit.specs.Sound.{Sound}
 use Rattle.pcj_fit.specs.Triples.{HasTriples}
 use Rattle.pcj_client.specs.Job.{Job}
@@ -72,6 +75,44 @@ KeepsAllSound old oracle table new oracle' table' = (others : List Actor) → So
 
 abbrev pub LeavesTriples : Job → Option Block → Table → Table → List Triple → List Triple → Type 0
 LeavesTriples old oracle table table' known after = (others : List Actor) → Sound (state_of oracle table (old.actor ∷ others)) → HasTriples (row_at table) known → HasTriples (row_at table') after
+
+-- ---- the moves of a step
+
+-- no plain value is written but the clock's
+abbrev pub WriteClockAlone : List Move → Type 0
+WriteClockAlone [] = Unit {0}
+WriteClockAlone (move ∷ moves) = WritesClock move × WriteClockAlone moves
+
+-- the job has made moves that the rules allow, and nothing else has changed
+pub record HasMoved (old : Job) (oracle : Option Block) (table : Table) (new : Job) (oracle' : Option Block) (table' : Table) : Type 0 where
+  pub moves : List Move
+  pub clock : WriteClockAlone moves
+  pub makes : Makes moves (next_number oracle table) (row_at table) old.actor (next_number oracle' table') (row_at table') new.actor
+
+-- Whoever else is at work: a step is such moves.
+abbrev pub IsMoved : Job → Option Block → Table → Job → Option Block → Table → Type 0
+IsMoved old oracle table new oracle' table' = (others : List Actor) → Sound (state_of oracle table (old.actor ∷ others)) → HasMoved old oracle table new oracle' table'
+
+-- one triple is read at most, and nothing is prewritten
+pub record ReadsOne (old new : Job) : Type 0 where
+  pub prewritten : new.actor.transaction.prewritten ≡ old.actor.transaction.prewritten
+  pub answers : length new.actor.answers ≤ length old.actor.answers + 1
+
+-- one row is prewritten, and nothing is read
+pub record PrewritesOne (old new : Job) : Type 0 where
+  pub prewritten : new.actor.transaction.prewritten ≡ old.actor.transaction.prewritten + 1
+  pub answers : new.actor.answers ≡ old.actor.answers
+
+-- how far a step goes
+pub record StepsOn (old new : Job) : Type 0 where
+  pub start : new.actor.start ≡ old.actor.start
+  pub one : ReadsOne old new ⊎ PrewritesOne old new
+
+-- the job's next step draws its commit
+abbrev pub IsDrawing : Job → Type 0
+IsDrawing job = (progress : TxnProgress) × (job.writing ≡ Some progress) × (due progress ≡ Draw)
+
+-- ---- the calls of a step
 
 -- how many calls of the table a step makes at most: one, or those of a draw
 abbrev pub writing_calls : Option TxnProgress → Option Block → Table → ℕ

@@ -8,7 +8,7 @@ use Rattle.pcj_rowtables.specs.Rows.{triple_key}
 use Rattle.pcj_moves.specs.Transactions.{new_transaction}
 use Rattle.pcj_moves.specs.Actors.{Actor}
 use Rattle.pcj_txn.specs.Progress.{Progress as TxnProgress}
-use Rattle.pcj_actor.specs.Progress.{Progress, transaction_of}
+use Rattle.pcj_actor.specs.Progress.{IsOfStart, Progress, transaction_of}
 use Rattle.pcj_actor.specs.declared.task.Task.{Task}
 use Rattle.pcj_actor.specs.declared.task.Task.TheVariants.{Rest, Get, Next, Put, Write as Writes}
 use Rattle.pcj_table.specs.Table.{Key}
@@ -22,7 +22,7 @@ use Rattle.pcj_moves.specs.Transactions.{are_distinct}
 use Rattle.pcj_actor.specs.declared.event.ActorEvent.{ActorEvent}
 use Rattle.pcj_actor.specs.declared.event.ActorEvent.TheVariants as event
 use Rattle.pcj_actor.specs.Progress.{IsAnswerOf, with_held, with_met, with_recovered, with_task, with_txn}
-use Rattle.pcj_fit.specs.Plans.{AreReadOf, IsLoad, absent_of, load_writes, triple_writes}
+use Rattle.pcj_fit.specs.Plans.{AreReadOf, IsLoad, IsLoadPlan, absent_of, load_writes, triple_writes}
 
 -- The actor, its transaction's progress once all is read, whether the lock of its recovery's primary is to be dropped, and
 -- the triples that are loaded.
@@ -42,6 +42,19 @@ writing_of (Writes progress) = Some progress
 abbrev pub job_of : Progress → List Triple → Job
 job_of progress triples = record { actor = progress.actor; writing = writing_of progress.task; locked = progress.locked; triples = triples }
 
+-- Nothing is prewritten until all is read. Then its transaction is of its start, and writes the rows of the triples that weren't
+-- found.
+abbrev pub HasCome : Option TxnProgress → Job → Type 0
+HasCome None job = (job.actor.transaction ≡ new_transaction []) × (length job.actor.answers < length job.triples)
+HasCome (Some progress) job =
+    (job.actor.transaction ≡ progress.transaction) × (progress.start ≡ job.actor.start) × IsLoadPlan job.actor.start job.actor.answers job.actor.transaction.writes job.triples
+
+-- the job of a load: its number is its start, and its answers are of its triples, in order
+pub record IsLoadJob (job : Job) : Type 0 where
+  pub load : IsLoad job.actor.start job.triples
+  pub reads : AreReadOf job.triples job.actor.answers
+  pub come : HasCome job.writing job
+
 -- ---- what it has gathered
 
 -- What is carried out, what is gathered to be written, and, while a triple is read, how much of that stays where the
@@ -60,6 +73,7 @@ pub record IsAtWork (progress : Progress) (triples : List Triple) (writes : List
   pub load : IsLoad progress.actor.start triples
   pub reads : AreReadOf triples progress.actor.answers
   pub transaction : progress.actor.transaction ≡ transaction_of progress.task
+  pub start : IsOfStart progress.actor.start progress.task
   pub task : IsTask progress.task progress.actor triples writes kept
 
 -- ---- a step
@@ -77,7 +91,7 @@ IsAfter before event.Met after = (key : Key) × (lock : Lock) × (after ≡ with
 IsAfter before (event.Recovers told) after = (progress : RecoveryProgress) × (after ≡ with_recovered before told progress)
 IsAfter before (event.Put applied) after = (key : Key) × (plain : Plain) × (before.task ≡ Put key plain)
 IsAfter before (event.Writes told) after =
-    (txn : TxnProgress) × (next : TxnProgress) × (before.task ≡ Writes txn) × (next.transaction.writes ≡ txn.transaction.writes) × (after ≡ with_txn before next)
+    (txn : TxnProgress) × (next : TxnProgress) × (before.task ≡ Writes txn) × (next.transaction.writes ≡ txn.transaction.writes) × (next.start ≡ txn.start) × (after ≡ with_txn before next)
 
 -- the load was at work, and its actor made a step
 abbrev pub HasStepped : List Triple → List Write → Option ℕ → ActorEvent → Progress → Type 0

@@ -4,14 +4,14 @@ ghost use Rattle.pcj_oracle.specs.Clock.{IsClock, next_number};
 ghost use Rattle.pcj_oracle.specs.Draw.{Keeps};
 ghost use Rattle.pcj_table.specs.declared.error.TableError.TheVariants as table_error;
 ghost use Rattle.pcj_txn.specs.declared.error.TxnError.TheVariants.{Spent};
-ghost use Rattle.pcj_txn.specs.Errors.{HasTxnCause};
+ghost use Rattle.pcj_txn.specs.Errors.{HasTxnCause, MakesOneCall};
 ghost use Rattle.pcj_moves.specs.Actors.{new_actor};
 ghost use Rattle.std.specs.Option.{option_copied};
 ghost use Rattle.pcj_actor.specs.declared.event.ActorEvent.TheVariants.{Answered};
 ghost use Rattle.pcj_actor.specs.Progress.{MakesUpTo, Progress};
 ghost use Rattle.pcj_fit.specs.Plans.{IsLoad};
-ghost use Rattle.pcj_client.specs.Job.{IsAtWork, IsBusy, HasStepped, GoesOn, is_found, kept_writes, writing_of};
-ghost use Rattle.pcj_client.specs.Events.{IsTold, CommitsOnce, KeepsAllSound, LeavesTriples, job_calls, triples_after, event_of, job_event};
+ghost use Rattle.pcj_client.specs.Job.{IsAtWork, IsBusy, IsLoadJob, HasStepped, GoesOn, is_found, kept_writes, writing_of};
+ghost use Rattle.pcj_client.specs.Events.{IsDrawing, IsMoved, IsTold, CommitsOnce, KeepsAllSound, LeavesTriples, StepsOn, job_calls, triples_after, event_of, job_event};
 
 use crate::event::JobEvent;
 use crate::writes::add_writes;
@@ -53,6 +53,7 @@ impl LoadJob {
         requires { IsLoad load triples }
         ensures actor { result.actor ≡ new_actor load }
         ensures triples { result.triples ≡ triples }
+        ensures job { IsLoadJob result }
     {
         let mut actor = Actor::new(alloc, load);
         if triples.is_empty() {
@@ -82,6 +83,11 @@ impl LoadJob {
         ensures triples { (known : List Triple) → IfOk result (λ event. LeavesTriples self.old oracle.old (T.rows table.old) (T.rows table.new) known (triples_after event known self.old.triples)) }
         ensures content { self.new.triples ≡ self.old.triples }
 
+        // What the step is to others, and how far it goes, whatever it answers.
+        ensures moves { IsMoved self.old oracle.old (T.rows table.old) self.new oracle.new (T.rows table.new) }
+        ensures on { StepsOn self.old self.new }
+        ensures job { IsLoadJob self.new }
+
         // What an error leaves.
         ensures same { OnErr result (self.new ≡ self.old) }
         ensures kept { OnErr result (Keeps oracle.old (T.rows table.old) oracle.new (T.rows table.new)) }
@@ -89,10 +95,12 @@ impl LoadJob {
 
         // When each error comes.
         ensures spent { IsErrOf result Spent → next_number oracle.old (T.rows table.old) ≡ 2 ^ 48 }
+        ensures spent_draw { IsErrOf result Spent → IsDrawing self.old }
         ensures cause { HasTxnCause (T.failures table.old) (T.failures table.new) result }
 
         // The calls of the table.
         ensures calls { MakesUpTo (job_calls self.old oracle.old (T.rows table.old)) (T.made table.old) (T.made table.new) }
+        ensures one { MakesOneCall oracle.old oracle.new (T.made table.old) (T.made table.new) }
     {
         ask(
             self.alloc,

@@ -1,5 +1,5 @@
 -- When a step of a transaction may fail, and how many calls of the table it makes.
-use Rattle.std.specs.Prelude.{◌≡◌, ℕ, ◌≤◌, Bool, true, false, Option, Result, Ok, Err, IsErrOf}
+use Rattle.std.specs.Prelude.{◌≡◌, ℕ, ◌+◌, ◌≤◌, Bool, true, false, Option, Result, Ok, Err, IsErrOf}
 use Rattle.pcj_io.specs.Faults.{Rose}
 use Rattle.pcj_table.specs.Table.{Table}
 use Rattle.pcj_table.specs.declared.error.TableError.{TableError}
@@ -7,7 +7,7 @@ use Rattle.pcj_table.specs.declared.error.TableError.TheVariants as table
 use Rattle.pcj_oracle.specs.declared.block.Block.{Block}
 use Rattle.pcj_oracle.specs.declared.error.OracleError.{OracleError}
 use Rattle.pcj_oracle.specs.declared.error.OracleError.TheVariants as oracle
-use Rattle.pcj_oracle.specs.Calls.{after_calls, calls_due}
+use Rattle.pcj_oracle.specs.Calls.{after_calls, calls_due, reads}
 use Rattle.pcj_txn.specs.declared.error.TxnError.{TxnError}
 use Rattle.pcj_txn.specs.declared.error.TxnError.TheVariants.{Failed, Memory, Spent}
 use Rattle.pcj_txn.specs.Progress.{Due, Prewrite, Draw, CommitPrimary, CommitNone, CommitSecondary, End}
@@ -49,3 +49,9 @@ pub record MakesStepCalls (due before now : ℕ) (answered : Bool) : Type 0 wher
   pub within : calls ≤ due
   pub all : answered ≡ true → calls ≡ due
   pub none : due ≡ 0 → answered ≡ true
+
+-- One call at most, and one more where it reads the clock's row for an oracle that isn't attached: from then on it is.
+pub record MakesOneCall (oracle oracle' : Option Block) (before now : ℕ) : Type 0 where
+  pub calls : ℕ
+  pub made : now ≡ after_calls calls before
+  pub within : calls + reads oracle' ≤ 1 + reads oracle

@@ -6,7 +6,7 @@ ghost use Rattle.pcj_oracle.specs.Calls.{calls_due};
 ghost use Rattle.pcj_txn.specs.declared.error.TxnError.TheVariants.{Spent};
 ghost use Rattle.pcj_txn.specs.Progress.{Draw, due, new_progress};
 ghost use Rattle.pcj_txn.specs.Steps.{Steps};
-ghost use Rattle.pcj_txn.specs.Errors.{HasTxnCause, is_answered, step_calls, MakesStepCalls};
+ghost use Rattle.pcj_txn.specs.Errors.{HasTxnCause, is_answered, step_calls, MakesOneCall, MakesStepCalls};
 
 use crate::refusal::refusal_of;
 use crate::row::{lock_row, unlock_row};
@@ -80,6 +80,7 @@ impl Txn {
         ensures spent { IsErrOf result Spent → next_number oracle.old (T.rows table.old) ≡ 2 ^ 48 }
         ensures cause { HasTxnCause (T.failures table.old) (T.failures table.new) result }
         ensures calls { MakesStepCalls (step_calls (due self.old) oracle.old (T.rows table.old)) (T.made table.old) (T.made table.new) (is_answered result) }
+        ensures one { MakesOneCall oracle.old oracle.new (T.made table.old) (T.made table.new) }
     {
         match self.commit {
             None if self.prewritten < self.writes.len() => Ok(self.prewrite_next(table)?),
@@ -131,6 +132,7 @@ impl Txn {
         ensures spent { IsErrOf result Spent → next_number oracle.old (T.rows table.old) ≡ 2 ^ 48 }
         ensures cause { HasTxnCause (T.failures table.old) (T.failures table.new) result }
         ensures calls { MakesStepCalls (calls_due oracle.old (T.rows table.old)) (T.made table.old) (T.made table.new) (is_answered result) }
+        ensures one { MakesOneCall oracle.old oracle.new (T.made table.old) (T.made table.new) }
     {
         let commit = oracle.draw(table)?;
         self.commit = Some(commit);

@@ -2,7 +2,7 @@ use Rattle.std.proofs.Common.{inr, [], rules, refl, sym, subst, ap, ◌∙◌}
 use Rattle.pcj_table.specs.Table.{row_at}
 use Rattle.pcj_actor.specs.declared.task.Task.TheVariants.{Get, Next}
 use Rattle.pcj_actor.specs.Progress.{Progress, ReadsNoPlain}
-use Rattle.pcj_actor.proofs.ActorLemmas.{progress_as, put_moves, put_keeps_clock, read_calls, txn_calls, held_tells, written_tells, read_is_held, txn_goes_on, txn_meets}
+use Rattle.pcj_actor.proofs.ActorLemmas.{one_at_most, progress_as, put_moves, put_keeps_clock, read_calls, txn_calls, held_tells, written_tells, read_is_held, txn_goes_on, txn_meets}
 use Rattle.pcj_actor.proofs.actor.Actor.carry_out.Goals as goal
 
 pub returns-in_ok-hold-in-Get-clause-tells : goal.returns-in_ok-hold-in-Get-clause-tells
@@ -51,6 +51,8 @@ returns-in_default g c = record {
   clock = (c.in_ok-event-in-Write.ensures {u = tt}).clock;
   spent = λ is. absurd cc;
   cause = record { later = (c.in_ok-event-in-Write.ensures {u = tt}).cause.later; failed = λ is. absurd cc };
+  spent_draw = λ is. absurd cc;
+  one = (c.in_ok-event-in-Write.ensures {u = tt}).one;
   calls = txn_calls c.args.self.now c.in-Write.txn c.args.oracle.now _ _ _ _ (ap (λ (p : Progress). p.task) (sym c.self.view_is) ∙ c.in-Write.is) (c.in_ok-event-in-Write.ensures {u = tt}).calls;
 }
 
@@ -83,3 +85,15 @@ returns-in_err-hold-in-Next-clause-moves g c others plain is = ([], inr tt, sear
 
 pub returns-in_err-event-in-Write-clause-moves : goal.returns-in_err-event-in-Write-clause-moves
 returns-in_err-event-in-Write-clause-moves g c others plain is = ([], inr tt, search rules)
+
+pub returns-in_err-hold-in-Get-clause-one : goal.returns-in_err-hold-in-Get-clause-one
+returns-in_err-hold-in-Get-clause-one g c = one_at_most c.args.oracle.now _ _ (c.in_ok-told-in-Get.ensures {u = tt}).most
+
+pub returns-in_err-hold-in-Next-clause-one : goal.returns-in_err-hold-in-Next-clause-one
+returns-in_err-hold-in-Next-clause-one g c = one_at_most c.args.oracle.now _ _ (c.in_ok-told-in-Next.ensures {u = tt}).most
+
+pub returns-in_ok-hold-in-Get-clause-one : goal.returns-in_ok-hold-in-Get-clause-one
+returns-in_ok-hold-in-Get-clause-one g c = one_at_most c.args.oracle.now _ _ (c.in_ok-told-in-Get.ensures {u = tt}).most
+
+pub returns-in_ok-hold-in-Next-clause-one : goal.returns-in_ok-hold-in-Next-clause-one
+returns-in_ok-hold-in-Next-clause-one g c = one_at_most c.args.oracle.now _ _ (c.in_ok-told-in-Next.ensures {u = tt}).most

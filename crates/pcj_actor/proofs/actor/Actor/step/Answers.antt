@@ -1,5 +1,5 @@
 use Rattle.std.proofs.Common.{Ok, is_some, sym, ap}
-use Rattle.pcj_actor.proofs.ActorLemmas.{recovery_keeps_number, recovery_calls}
+use Rattle.pcj_actor.proofs.ActorLemmas.{one_at_most, recovery_keeps_number, recovery_calls}
 use Rattle.pcj_actor.proofs.actor.Actor.step.Goals as goal
 
 pub returns-in-Some-clause-first : goal.returns-in-Some-clause-first
@@ -15,3 +15,9 @@ returns-in_err-event-clause-calls g c = recovery_calls c.args.self.now c.args.or
 pub returns-in-Some-clause-calls : goal.returns-in-Some-clause-calls
 returns-in-Some-clause-calls g c =
     recovery_calls c.args.self.now c.args.oracle.now _ _ _ (ap is_some ((c.in_ok-event.ensures {u = tt}).some c.in-Some.event (ap Ok c.in-Some.is)).is) (c.in_ok-event.ensures {u = tt}).most
+
+pub returns-in_err-event-clause-one : goal.returns-in_err-event-clause-one
+returns-in_err-event-clause-one g c = one_at_most c.args.oracle.now _ _ (c.in_err-event.ensures {u = tt}).most
+
+pub returns-in-Some-clause-one : goal.returns-in-Some-clause-one
+returns-in-Some-clause-one g c = one_at_most c.args.oracle.now _ _ (c.in_ok-event.ensures {u = tt}).most
