@@ -1,25 +1,23 @@
 -- The steps of one command, one after another.
-use Rattle.std.proofs.Common.{◌≡◌, ◌≤◌, ◌<◌, ◌^◌, ◌+◌, ◌*◌, ℕ, zero, suc, Bool, true, false, not, is_none, is_some, nat_lt, ◌==◌, ◌&&◌, List, [], ◌∷◌, ◌++◌, length, Option, Some, None, Result, Ok, Err, IfOk, OnErr, IsErrOf, refl, ap, sym, subst, ◌∙◌, arith, if◌then◌else◌}
+use Rattle.std.proofs.Common.{◌≡◌, ◌≤◌, ◌<◌, ◌^◌, ◌+◌, ℕ, zero, suc, Bool, true, false, not, ◌==◌, ◌&&◌, List, [], ◌∷◌, ◌++◌, length, Option, Some, None, Result, Ok, Err, IfOk, OnErr, IsErrOf, refl, ap, sym, subst, ◌∙◌, arith, if◌then◌else◌}
 use Rattle.pcj_term.specs.declared.triple.Triple.{Triple}
 use Rattle.pcj_io.specs.Faults.{Rose}
 use Rattle.pcj_table.specs.Table.{Table, row_at}
 use Rattle.pcj_table.specs.Calls.{counted}
-use Rattle.pcj_oracle.specs.Clock.{next_number, stored_number}
-use Rattle.pcj_oracle.specs.Calls.{after_calls, calls_due}
+use Rattle.pcj_oracle.specs.Clock.{next_number}
+use Rattle.pcj_oracle.specs.Calls.{after_calls}
 use Rattle.pcj_oracle.specs.Draw.{Keeps}
 use Rattle.pcj_oracle.specs.declared.block.Block.{Block}
 use Rattle.pcj_txn.specs.declared.error.TxnError.TheVariants as txn_error
-use Rattle.pcj_txn.specs.Errors.{step_calls}
-use Rattle.pcj_txn.specs.Progress.{Progress as TxnProgress, Due, Prewrite, Draw, CommitPrimary, CommitNone, CommitSecondary, End, due}
+use Rattle.pcj_txn.specs.Errors.{MakesOneCall}
 use Rattle.pcj_actor.specs.Progress.{MakesUpTo}
 use Rattle.pcj_fit.specs.Triples.{HasTriples}
 use Rattle.pcj_client.specs.Job.{Job}
-use Rattle.pcj_client.specs.Events.{job_calls, writing_calls}
 use Rattle.pcj_client.specs.declared.event.JobEvent.{JobEvent}
 use Rattle.pcj_client.specs.declared.event.JobEvent.TheVariants as event
 use Rattle.pcj_clients.specs.Clients.{is_end, job_of, with_job, without_job}
-use Rattle.pcj_clients.specs.Laws.{ChangesTriples, IsClientStep, KeepsAllSound, calls_of, triples_then}
-use Rattle.pcj_clients.specs.Steps.{AreSteps, GoOnUpTo, IsStepOf, Told, all_go_on, goes_on, known_after, no_steps, stepped_from, with_told}
+use Rattle.pcj_clients.specs.Laws.{ChangesTriples, DrawsNext, IsClientStep, KeepsAllSound, calls_of, triples_then}
+use Rattle.pcj_clients.specs.Steps.{AreSteps, AreStepsOf, GoOnUpTo, IsStepOf, MakesCallsOf, Told, WantsMemory, all_go_on, all_had_memory, goes_on, had_memory, known_after, no_steps, stepped_from, with_told}
 use Rattle.pcj_clients.specs.declared.busy.Busy.{Busy}
 use Rattle.pcj_clients.specs.declared.stepped.Stepped.{Stepped}
 use Rattle.pcj_clients.specs.declared.stepped.StepsEnd.TheVariants as end
@@ -29,9 +27,10 @@ use Rattle.pcj_clients.proofs.JobLemmas.{choice}
 
 -- what a step's clauses say of it, whatever it answers
 pub is_step_of : (told : Told) (client : ℕ) (old new : List Busy) (oracle oracle' : Option Block) (table table' : Table) → IfOk told (λ event. IsClientStep (job_of old client) client old oracle table event new oracle' table') →
-    OnErr told (new ≡ old) → OnErr told (Keeps oracle table oracle' table') → (IsErrOf told txn_error.Spent → next_number oracle table ≡ 2 ^ 48) → IsStepOf told client old oracle table new oracle' table'
-is_step_of (Ok event) client old new oracle oracle' table table' tells same keeps spent = tells
-is_step_of (Err error) client old new oracle oracle' table table' tells same keeps spent = (same, keeps, λ is. spent (ap (λ e. Err e) is))
+    OnErr told (new ≡ old) → OnErr told (Keeps oracle table oracle' table') → (IsErrOf told txn_error.Spent → next_number oracle table ≡ 2 ^ 48) → (IsErrOf told txn_error.Spent → DrawsNext (job_of old client)) →
+    IsStepOf told client old oracle table new oracle' table'
+is_step_of (Ok event) client old new oracle oracle' table table' tells same keeps spent draws = tells
+is_step_of (Err error) client old new oracle oracle' table table' tells same keeps spent draws = (same, keeps, λ is. (spent (ap (λ e. Err e) is), draws (ap (λ e. Err e) is)))
 
 -- ---- the job's triples
 
@@ -67,11 +66,11 @@ keeps_triples (Ok (Some event)) client old new oracle oracle' table table' step 
 
     by : (found : Option Job) → job_of old client ≡ found → IsClientStep found client old oracle table (Some event) new oracle' table' → triples_of (job_of new client) ≡ triples_of (job_of old client)
     by None e step = absurd (let clash = step.0 in cc)
-    by (Some job) e step = let (told, is, job', tells, commits, content, after) = step in
+    by (Some job) e step = let (told, is, made) = step in
         let same : Some event ≡ Some told = is in
         let going : is_end told ≡ false = subst (λ x. is_end x ≡ false) (let s : event ≡ told = cc in s) (not_true (is_end event) goes) in
-        let now : new ≡ with_job old client job' = after ∙ ap (λ b. if b then without_job old client else with_job old client job') going in
-        ap (λ cs. triples_of (job_of cs client)) now ∙ ap triples_of (job_with old client job job' e) ∙ ap Some content ∙ sym (ap triples_of e)
+        let now : new ≡ with_job old client made.after = made.left ∙ ap (λ b. if b then without_job old client else with_job old client made.after) going in
+        ap (λ cs. triples_of (job_of cs client)) now ∙ ap triples_of (job_with old client job made.after e) ∙ ap Some made.content ∙ sym (ap triples_of e)
 
 -- ---- one more at the end
 
@@ -126,53 +125,68 @@ stays_all_made stepped (Ok (Some event.Done)) all goes = absurd cc
 stays_all_made stepped (Ok (Some event.Aborted)) all goes = absurd cc
 stays_all_made stepped (Ok (Some event.Taken)) all goes = absurd cc
 
--- ---- calls of the table
-
-one_or_none : (b : Bool) → (if b then 1 else 0) ≤ 1
-one_or_none true = omega arith
-one_or_none false = omega arith
-
--- a draw makes two at most, of which one reads the clock for an oracle that is new
-few_due : (oracle : Option Block) (table : Table) → calls_due oracle table ≤ 2
-few_due oracle table = let a = one_or_none (is_none oracle) in let b = one_or_none (next_number oracle table == stored_number table && nat_lt (next_number oracle table) (2 ^ 48)) in omega arith
-
-few_steps : (due : Due) (oracle : Option Block) (table : Table) → step_calls due oracle table ≤ 2
-few_steps (Prewrite write) oracle table = omega arith
-few_steps Draw oracle table = few_due oracle table
-few_steps (CommitPrimary write commit) oracle table = omega arith
-few_steps (CommitNone commit) oracle table = omega arith
-few_steps (CommitSecondary write commit) oracle table = omega arith
-few_steps End oracle table = omega arith
-
-few_writing : (writing : Option TxnProgress) (oracle : Option Block) (table : Table) → writing_calls writing oracle table ≤ 2
-few_writing None oracle table = omega arith
-few_writing (Some progress) oracle table = few_steps (due progress) oracle table
-
-few_calls : (job : Option Job) (oracle : Option Block) (table : Table) → calls_of job oracle table ≤ 2
-few_calls None oracle table = omega arith
-few_calls (Some job) oracle table = by (is_some job.actor.recovery) refl
+all_had_then : (told : List Told) (more : Told) → all_had_memory told ≡ true → all_had_memory (told ++ more ∷ []) ≡ had_memory more
+all_had_then [] more all = by (had_memory more)
   where
-    by : (b : Bool) → is_some job.actor.recovery ≡ b → job_calls job oracle table ≤ 2
-    by true e = subst (λ b. (if b then 1 else writing_calls job.writing oracle table) ≤ 2) (sym e) (omega arith)
-    by false e = subst (λ b. (if b then 1 else writing_calls job.writing oracle table) ≤ 2) (sym e) (few_writing job.writing oracle table)
+    by : (b : Bool) → (b && true) ≡ b
+    by true = refl
+    by false = refl
+all_had_then (first ∷ told) more all = by (had_memory first) refl (all_had_then told more)
+  where
+    by : (b : Bool) → had_memory first ≡ b → (all_had_memory told ≡ true → all_had_memory (told ++ more ∷ []) ≡ had_memory more) → all_had_memory ((first ∷ told) ++ more ∷ []) ≡ had_memory more
+    by true e rest = ap (λ b. b && all_had_memory (told ++ more ∷ [])) e ∙ rest (ap (λ b. b && all_had_memory told) (sym e) ∙ all)
+    by false e rest = absurd (let clash : false ≡ true = ap (λ b. b && all_had_memory told) (sym e) ∙ all in cc)
+
+-- ---- calls of the table
 
 calls_then : (more calls before : ℕ) → after_calls (more + calls) before ≡ after_calls more (after_calls calls before)
 calls_then zero calls before = let same : 0 + calls ≡ calls = omega arith in ap (λ n. after_calls n before) same
 calls_then (suc more) calls before = let same : suc more + calls ≡ suc (more + calls) = omega arith in ap (λ n. after_calls n before) same ∙ ap counted (calls_then more calls before)
 
-makes_then : (len most len' before between now : ℕ) → len' ≡ suc len → most ≤ 2 → MakesUpTo (2 * len) before between → MakesUpTo most between now → MakesUpTo (2 * len') before now
-makes_then len most len' before between now is few made more = record {
+makes_then : (len len' : ℕ) (oracle between oracle' : Option Block) (before middle now : ℕ) → len' ≡ suc len → MakesCallsOf len oracle between before middle → MakesOneCall between oracle' middle now → MakesCallsOf len' oracle oracle' before now
+makes_then len len' oracle between oracle' before middle now is made more = record {
   calls = more.calls + made.calls;
   made = more.made ∙ ap (λ n. after_calls more.calls n) made.made ∙ sym (calls_then more.calls made.calls before);
   within = let a = made.within in let b = more.within in omega arith;
 }
 
-pub up_to : (len most before now : ℕ) → len ≤ most → MakesUpTo (2 * len) before now → MakesUpTo (2 * most) before now
-up_to len most before now less makes = record { calls = makes.calls; made = makes.made; within = let a = makes.within in omega arith }
+pub up_to : (len most : ℕ) (oracle oracle' : Option Block) (before now : ℕ) → len ≤ most → MakesCallsOf len oracle oracle' before now → MakesCallsOf most oracle oracle' before now
+up_to len most oracle oracle' before now less makes = record { calls = makes.calls; made = makes.made; within = let a = makes.within in omega arith }
+
+pub no_call : (oracle : Option Block) (made : ℕ) → MakesOneCall oracle oracle made made
+no_call oracle made = record { calls = 0; made = refl; within = omega arith }
+
+-- a client without a job makes none
+none_called : (client : ℕ) (mid new : List Busy) (between oracle' : Option Block) (rows table' : Table) (middle now : ℕ) → IsStepOf (Ok None) client mid between rows new oracle' table' → MakesUpTo (calls_of (job_of mid client) between rows) middle now → (oracle' ≡ between) × (now ≡ middle)
+none_called client mid new between oracle' rows table' middle now step calls = by (job_of mid client) step calls
+  where
+    none : (n : ℕ) → n ≤ 0 → now ≡ after_calls n middle → now ≡ middle
+    none zero le made = made
+    none (suc n) le made = absurd (omega (arith, le))
+
+    by : (found : Option Job) → IsClientStep found client mid between rows None new oracle' table' → MakesUpTo (calls_of found between rows) middle now → (oracle' ≡ between) × (now ≡ middle)
+    by None step calls = (step.2, none calls.calls calls.within calls.made)
+    by (Some job) step calls = absurd (let clash = step.1 in cc)
+
+-- as many calls as were counted
+count_then : (told : Told) (client len : ℕ) (stepped : Stepped) (mid new : List Busy) (oracle between oracle' : Option Block) (rows table' : Table) (before middle now : ℕ) → stepped.count ≡ len → had_memory told ≡ true →
+    IsStepOf told client mid between rows new oracle' table' → MakesUpTo (calls_of (job_of mid client) between rows) middle now → MakesOneCall between oracle' middle now → MakesCallsOf len oracle between before middle →
+    MakesCallsOf (with_told stepped told).count oracle oracle' before now
+count_then (Ok None) client len stepped mid new oracle between oracle' rows table' before middle now is had step few one made =
+    let none = none_called client mid new between oracle' rows table' middle now step few in
+    subst (λ n. MakesCallsOf n oracle oracle' before now) (sym is) (subst (λ o. MakesCallsOf len oracle o before now) (sym none.0) (subst (λ m. MakesCallsOf len oracle between before m) (sym none.1) made))
+count_then (Ok (Some event.Worked)) client len stepped mid new oracle between oracle' rows table' before middle now is had step few one made = makes_then len _ oracle between oracle' before middle now (ap suc is) made one
+count_then (Ok (Some (event.Committed commit))) client len stepped mid new oracle between oracle' rows table' before middle now is had step few one made = makes_then len _ oracle between oracle' before middle now (ap suc is) made one
+count_then (Ok (Some event.Done)) client len stepped mid new oracle between oracle' rows table' before middle now is had step few one made = makes_then len _ oracle between oracle' before middle now (ap suc is) made one
+count_then (Ok (Some event.Aborted)) client len stepped mid new oracle between oracle' rows table' before middle now is had step few one made = makes_then len _ oracle between oracle' before middle now (ap suc is) made one
+count_then (Ok (Some event.Taken)) client len stepped mid new oracle between oracle' rows table' before middle now is had step few one made = makes_then len _ oracle between oracle' before middle now (ap suc is) made one
+count_then (Err txn_error.Failed) client len stepped mid new oracle between oracle' rows table' before middle now is had step few one made = makes_then len _ oracle between oracle' before middle now (ap suc is) made one
+count_then (Err txn_error.Spent) client len stepped mid new oracle between oracle' rows table' before middle now is had step few one made = makes_then len _ oracle between oracle' before middle now (ap suc is) made one
+count_then (Err txn_error.Memory) client len stepped mid new oracle between oracle' rows table' before middle now is had step few one made = absurd cc
 
 -- ---- the steps so far
 
-pub record SoFar (client most : ℕ) (old : List Busy) (oracle : Option Block) (table : Table) (made : ℕ) (going : Bool) (stepped : Stepped) (new : List Busy) (oracle' : Option Block) (table' : Table) (made' : ℕ) : Type 0 where
+pub record SoFar (client most : ℕ) (old : List Busy) (oracle : Option Block) (table : Table) (made : ℕ) (going had : Bool) (stepped : Stepped) (new : List Busy) (oracle' : Option Block) (table' : Table) (made' : ℕ) : Type 0 where
   pub told : List Told
   pub steps : AreSteps told client old oracle table new oracle' table'
   pub is : stepped ≡ stepped_from no_steps told
@@ -183,9 +197,11 @@ pub record SoFar (client most : ℕ) (old : List Busy) (oracle : Option Block) (
   pub same : going ≡ true → triples_of (job_of new client) ≡ triples_of (job_of old client)
   pub sound : KeepsAllSound old oracle table new oracle' table'
   pub triples : (known : List Triple) → ChangesTriples old oracle table table' known (known_after (job_of old client) told known)
-  pub calls : MakesUpTo (2 * length told) made made'
+  pub memory : all_had_memory told ≡ had
+  pub calls : MakesCallsOf (length told) oracle oracle' made made'
+  pub count_calls : had ≡ true → MakesCallsOf stepped.count oracle oracle' made made'
 
-pub so_far_none : (client most : ℕ) (old : List Busy) (oracle : Option Block) (table : Table) (made : ℕ) → SoFar client most old oracle table made true no_steps old oracle table made
+pub so_far_none : (client most : ℕ) (old : List Busy) (oracle : Option Block) (table : Table) (made : ℕ) → SoFar client most old oracle table made true true no_steps old oracle table made
 so_far_none client most old oracle table made = record {
   told = [];
   steps = (refl, refl, refl);
@@ -197,7 +213,9 @@ so_far_none client most old oracle table made = record {
   same = λ t. refl;
   sound = λ others sound. sound;
   triples = λ known others sound has. has;
+  memory = refl;
   calls = record { calls = 0; made = refl; within = omega arith };
+  count_calls = λ t. record { calls = 0; made = refl; within = omega arith };
 }
 
 -- what a step leaves of the triples, whatever it answers
@@ -211,10 +229,16 @@ leaves (Ok event) client old mid new between oracle' rows table' known step left
 leaves (Err error) client old mid new between oracle' rows table' known step left same others sound has =
     subst (λ t. HasTriples (row_at t) known) (sym ((step.1).same)) has
 
-pub one_more : (told : Told) (client most : ℕ) (old mid new : List Busy) (oracle between oracle' : Option Block) (table rows table' : Table) (made middle made' : ℕ) (stepped stepped' : Stepped) → SoFar client most old oracle table made true stepped mid between rows middle → stepped.count < most →
+more_triples : (told : Told) (client most : ℕ) (old mid new : List Busy) (oracle between oracle' : Option Block) (table rows table' : Table) (made middle : ℕ) (stepped : Stepped) (far : SoFar client most old oracle table made true true stepped mid between rows middle) →
+    IsStepOf told client mid between rows new oracle' table' → LeavesOf told client mid between rows table' → (known : List Triple) → ChangesTriples old oracle table table' known (known_after (job_of old client) (far.told ++ told ∷ []) known)
+more_triples told client most old mid new oracle between oracle' table rows table' made middle stepped far step left known others sound has =
+    subst (λ triples. HasTriples (row_at table') triples) (sym (after_then (job_of old client) far.told told known))
+    (leaves told client old mid new between oracle' rows table' (known_after (job_of old client) far.told known) step left (far.same refl) others (far.sound others sound) (far.triples known others sound has))
+
+pub one_more : (told : Told) (client most : ℕ) (old mid new : List Busy) (oracle between oracle' : Option Block) (table rows table' : Table) (made middle made' : ℕ) (stepped stepped' : Stepped) → SoFar client most old oracle table made true true stepped mid between rows middle → stepped.count < most →
     IsStepOf told client mid between rows new oracle' table' → KeepsAllSound mid between rows new oracle' table' → LeavesOf told client mid between rows table' → stepped' ≡ with_told stepped told →
-    MakesUpTo (calls_of (job_of mid client) between rows) middle made' → SoFar client most old oracle table made (goes_on told) stepped' new oracle' table' made'
-one_more told client most old mid new oracle between oracle' table rows table' made middle made' stepped stepped' far less step keeps left is calls = record {
+    MakesUpTo (calls_of (job_of mid client) between rows) middle made' → MakesOneCall between oracle' middle made' → SoFar client most old oracle table made (goes_on told) (had_memory told) stepped' new oracle' table' made'
+one_more told client most old mid new oracle between oracle' table rows table' made middle made' stepped stepped' far less step keeps left is calls one = record {
   told = far.told ++ told ∷ [];
   steps = steps_then far.told told client old mid new oracle between oracle' table rows table' far.steps step;
   is = is ∙ ap (λ s. with_told s told) far.is ∙ sym (from_then no_steps far.told told);
@@ -224,14 +248,52 @@ one_more told client most old mid new oracle between oracle' table rows table' m
   end = λ t. ap (λ (s : Stepped). s.end) is ∙ stays_all_made stepped told (far.end refl) t;
   same = λ t. keeps_triples told client mid new between oracle' rows table' step t ∙ far.same refl;
   sound = λ others sound. keeps others (far.sound others sound);
-  triples = λ known others sound has. subst (λ triples. HasTriples (row_at table') triples) (sym (after_then (job_of old client) far.told told known))
-      (leaves told client old mid new between oracle' rows table' (known_after (job_of old client) far.told known) step left (far.same refl) others (far.sound others sound) (far.triples known others sound has));
-  calls = makes_then (length far.told) (calls_of (job_of mid client) between rows) _ made middle made' (length_then far.told told) (few_calls (job_of mid client) between rows) far.calls calls;
+  triples = more_triples told client most old mid new oracle between oracle' table rows table' made middle stepped far step left;
+  memory = all_had_then far.told told far.memory;
+  calls = makes_then (length far.told) _ oracle between oracle' made middle made' (length_then far.told told) far.calls one;
+  count_calls = λ had. subst (λ (s : Stepped). MakesCallsOf s.count oracle oracle' made made') (sym is)
+      (count_then told client (length far.told) stepped mid new oracle between oracle' rows table' made middle made' (far.counted refl) had step calls one far.calls);
 }
   where
     goes : (b : Bool) → goes_on told ≡ b → GoOnUpTo (goes_on told) (far.told ++ told ∷ [])
     goes true e = subst (λ b. GoOnUpTo b (far.told ++ told ∷ [])) (sym e) (all_then far.told told far.go_on e)
     goes false e = subst (λ b. GoOnUpTo b (far.told ++ told ∷ [])) (sym e) (far.told, told, refl, far.go_on, e)
+
+-- ---- how they end
+
+-- what the steps came to, where there was memory
+pub are_steps_of : (client most : ℕ) (old : List Busy) (oracle : Option Block) (table : Table) (made : ℕ) (going : Bool) (stepped : Stepped) (new : List Busy) (oracle' : Option Block) (table' : Table) (made' : ℕ) →
+    SoFar client most old oracle table made going true stepped new oracle' table' made' → (going ≡ true → stepped.count < most → ⊥) →
+    (told : List Told) × (stepped ≡ stepped_from no_steps told) × AreStepsOf client most old oracle table told new oracle' table' × ((known : List Triple) → ChangesTriples old oracle table table' known (known_after (job_of old client) told known))
+are_steps_of client most old oracle table made going stepped new oracle' table' made' far last = (
+  far.told,
+  far.is,
+  record {
+    steps = far.steps;
+    going = going;
+    go_on = far.go_on;
+    within = far.within;
+    all = λ t. (let count = far.counted t in let more : stepped.count < most → ⊥ = last t in let within = far.within in omega (arith, more));
+    memory = far.memory;
+  },
+  far.triples,
+)
+
+-- and where there was none for the last
+pub wants_memory : (told : Told) (client most : ℕ) (old mid new : List Busy) (oracle between oracle' : Option Block) (table rows table' : Table) (made middle : ℕ) (stepped : Stepped) → SoFar client most old oracle table made true true stepped mid between rows middle → stepped.count < most →
+    IsStepOf told client mid between rows new oracle' table' → LeavesOf told client mid between rows table' → told ≡ Err txn_error.Memory →
+    (all : List Told) × WantsMemory client most old oracle table all new oracle' table' × ((known : List Triple) → ChangesTriples old oracle table table' known (known_after (job_of old client) all known))
+wants_memory told client most old mid new oracle between oracle' table rows table' made middle stepped far less step left short = (
+  far.told ++ told ∷ [],
+  record {
+    steps = steps_then far.told told client old mid new oracle between oracle' table rows table' far.steps step;
+    front = far.told;
+    is = ap (λ t. far.told ++ t ∷ []) short;
+    go_on = far.go_on;
+    within = let len = length_then far.told told in let count = far.counted refl in omega arith;
+  },
+  more_triples told client most old mid new oracle between oracle' table rows table' made middle stepped far step left,
+)
 
 -- ---- faults
 

@@ -9,17 +9,36 @@ use Rattle.pcj_actor.specs.StepLaws.{state_of}
 use Rattle.pcj_fit.specs.Laws as fit
 use Rattle.pcj_fit.specs.Sound.{Sound}
 use Rattle.pcj_fit.specs.Triples.{HasTriples}
-use Rattle.pcj_client.specs.Job.{Job}
-use Rattle.pcj_client.specs.Events.{CommitsOnce, IsTold, job_calls, triples_after}
+use Rattle.pcj_client.specs.Job.{IsLoadJob, Job}
+use Rattle.pcj_client.specs.Events as job_law
+use Rattle.pcj_client.specs.Events.{CommitsOnce, IsDrawing, IsMoved, IsTold, LeavesTriples, StepsOn, job_calls, triples_after}
 use Rattle.pcj_client.specs.declared.event.JobEvent.{JobEvent}
 use Rattle.pcj_clients.specs.Clients.{actors_of, after_step}
 use Rattle.pcj_clients.specs.declared.busy.Busy.{Busy}
 
--- A client without a job changes nothing; of one with a job, the job tells, and is over or goes on.
+-- What a step of a client's job comes to, whoever else is at work: what it tells, that it is moves which the rules allow, and
+-- that all stays sound; then the job is over or goes on.
+pub record IsJobStep (job : Job) (client : ℕ) (old : List Busy) (oracle : Option Block) (table : Table) (event : JobEvent) (new : List Busy) (oracle' : Option Block) (table' : Table) : Type 0 where
+  pub after : Job
+  pub told : IsTold job oracle table event after oracle' table'
+  pub commits : CommitsOnce job event after
+  pub moves : IsMoved job oracle table after oracle' table'
+  pub on : StepsOn job after
+  pub is : IsLoadJob after
+  pub content : after.triples ≡ job.triples
+  pub sound : job_law.KeepsAllSound job oracle table after oracle' table'
+  pub triples : (known : List Triple) → LeavesTriples job oracle table table' known (triples_after event known job.triples)
+  pub left : new ≡ after_step old client after event
+
+-- A client without a job changes nothing.
 abbrev pub IsClientStep : Option Job → ℕ → List Busy → Option Block → Table → Option JobEvent → List Busy → Option Block → Table → Type 0
 IsClientStep None client old oracle table told new oracle' table' = (told ≡ None) × (new ≡ old) × (oracle' ≡ oracle) × (table' ≡ table)
-IsClientStep (Some job) client old oracle table told new oracle' table' =
-    (event : JobEvent) × (told ≡ Some event) × (job' : Job) × IsTold job oracle table event job' oracle' table' × CommitsOnce job event job' × (job'.triples ≡ job.triples) × (new ≡ after_step old client job' event)
+IsClientStep (Some job) client old oracle table told new oracle' table' = (event : JobEvent) × (told ≡ Some event) × IsJobStep job client old oracle table event new oracle' table'
+
+-- the next step of the client's job draws its commit
+abbrev pub DrawsNext : Option Job → Type 0
+DrawsNext None = ⊥
+DrawsNext (Some job) = IsDrawing job
 
 -- the triples after a step of a client
 abbrev pub triples_then : Option Job → Option JobEvent → List Triple → List Triple

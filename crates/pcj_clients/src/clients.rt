@@ -1,15 +1,15 @@
-ghost use Rattle.std.specs.Prelude.{◌≡◌, ◌++◌, ◌∷◌, [], List, Some, None, is_some, IfOk, OnOk, OnErr, IsErrOf, ◌^◌, ◌*◌, ◌≤◌, IfSome, IfNone};
+ghost use Rattle.std.specs.Prelude.{◌≡◌, ◌++◌, ◌∷◌, [], List, Some, None, is_some, IfOk, OnOk, OnErr, IsErrOf, ◌^◌, ◌≤◌, IfSome, IfNone};
 ghost use Rattle.pcj_term.specs.declared.triple.Triple.{Triple};
 ghost use Rattle.pcj_oracle.specs.Clock.{IsClock, next_number};
 ghost use Rattle.pcj_oracle.specs.Draw.{Keeps};
 ghost use Rattle.pcj_txn.specs.declared.error.TxnError.TheVariants.{Spent};
-ghost use Rattle.pcj_txn.specs.Errors.{HasTxnCause};
+ghost use Rattle.pcj_txn.specs.Errors.{HasTxnCause, MakesOneCall};
 ghost use Rattle.pcj_actor.specs.Progress.{MakesUpTo};
 ghost use Rattle.pcj_clients.specs.Clients.{IsPlaceOf, is_end, job_of, without_job};
 ghost use Rattle.pcj_io.specs.Faults.{Rose};
 ghost use Rattle.pcj_clients.specs.declared.stepped.StepsEnd.TheVariants.{Fault};
-ghost use Rattle.pcj_clients.specs.Steps.{AreSteps, AreStepsOf, Told, known_after, no_steps, stepped_from};
-ghost use Rattle.pcj_clients.specs.Laws.{BeginsSound, ChangesTriples, EndsSound, IsClientStep, KeepsAllSound, calls_of, triples_then};
+ghost use Rattle.pcj_clients.specs.Steps.{AreStepsOf, MakesCallsOf, Told, WantsMemory, known_after, no_steps, stepped_from};
+ghost use Rattle.pcj_clients.specs.Laws.{BeginsSound, ChangesTriples, DrawsNext, EndsSound, IsClientStep, KeepsAllSound, calls_of, triples_then};
 
 use crate::busy::Busy;
 use crate::stepped::Stepped;
@@ -99,10 +99,12 @@ impl Clients {
 
         // When each error comes.
         ensures spent { IsErrOf result Spent → next_number oracle.old (T.rows table.old) ≡ 2 ^ 48 }
+        ensures spent_draw { IsErrOf result Spent → DrawsNext (job_of self.old client) }
         ensures cause { HasTxnCause (T.failures table.old) (T.failures table.new) result }
 
         // The calls of the table.
         ensures calls { MakesUpTo (calls_of (job_of self.old client) oracle.old (T.rows table.old)) (T.made table.old) (T.made table.new) }
+        ensures one { MakesOneCall oracle.old oracle.new (T.made table.old) (T.made table.new) }
     {
         let Some(place) = place_of(&self.busy, client) else {
             return Ok(None);
@@ -131,14 +133,15 @@ impl Clients {
         ensures clock { IsClock oracle.new (T.rows table.new) }
 
         // What want of memory leaves.
-        ensures memory { OnErr result ((told : List Told) × AreSteps told client self.old oracle.old (T.rows table.old) self.new oracle.new (T.rows table.new) × ((known : List Triple) → ChangesTriples self.old oracle.old (T.rows table.old) (T.rows table.new) known (known_after (job_of self.old client) told known))) }
+        ensures memory { OnErr result ((told : List Told) × WantsMemory client most self.old oracle.old (T.rows table.old) told self.new oracle.new (T.rows table.new) × ((known : List Triple) → ChangesTriples self.old oracle.old (T.rows table.old) (T.rows table.new) known (known_after (job_of self.old client) told known))) }
 
         // When a fault is told.
         ensures later { T.failures table.old ≤ T.failures table.new }
         ensures fault { IfOk result (λ stepped. stepped.end ≡ Fault → Rose (T.failures table.old) (T.failures table.new)) }
 
-        // The calls of the table: one a step, and one more for a clock that is read.
-        ensures calls { MakesUpTo (2 * most) (T.made table.old) (T.made table.new) }
+        // The calls of the table: one a step that was tried, and one more for an oracle that is attached.
+        ensures calls { IfOk result (λ stepped. MakesCallsOf stepped.count oracle.old oracle.new (T.made table.old) (T.made table.new)) }
+        ensures most_calls { MakesCallsOf most oracle.old oracle.new (T.made table.old) (T.made table.new) }
     {
         let mut stepped = Stepped::none();
         let mut goes_on = true;

@@ -1,6 +1,6 @@
-ghost use Rattle.std.specs.Prelude.{◌≡◌, ◌<◌, ◌-◌, ◌^◌, Err, IfOk, OnErr};
+ghost use Rattle.std.specs.Prelude.{◌≡◌, ◌<◌, ◌-◌, ◌^◌, Err, true, IfOk, OnOk, OnErr};
 ghost use Rattle.pcj_txn.specs.declared.error.TxnError.TheVariants as txn_error;
-ghost use Rattle.pcj_clients.specs.Steps.{goes_on, no_steps, with_told};
+ghost use Rattle.pcj_clients.specs.Steps.{goes_on, had_memory, no_steps, with_told};
 
 use pcj_client::JobEvent;
 use pcj_term::Memory;
@@ -56,6 +56,7 @@ impl Stepped {
         requires { self.old.count < 2 ^ 64 - 1 }
         ensures taken { self.new ≡ with_told self.old told }
         ensures goes { IfOk result (λ goes. goes ≡ goes_on told) }
+        ensures had { OnOk result (had_memory told ≡ true) }
         ensures memory { OnErr result (told ≡ Err txn_error.Memory) }
     {
         let end = match told {

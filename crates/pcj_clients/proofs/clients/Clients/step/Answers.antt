@@ -4,7 +4,7 @@ use Rattle.pcj_actor.specs.Progress.{MakesUpTo}
 use Rattle.pcj_fit.specs.Triples.{HasTriples}
 use Rattle.pcj_client.specs.Events.{triples_after}
 use Rattle.pcj_clients.specs.Clients.{IsPlaceOf, after_step, are_apart}
-use Rattle.pcj_clients.specs.Laws.{IsClientStep, KeepsAllSound, calls_of, triples_then}
+use Rattle.pcj_clients.specs.Laws.{DrawsNext, IsClientStep, KeepsAllSound, calls_of, triples_then}
 use Rattle.pcj_clients.specs.declared.busy.Busy.{Busy}
 use Rattle.pcj_clients.proofs.JobLemmas.{apart_after, goes_on_is, is_over_is}
 use Rattle.pcj_clients.proofs.PlaceLemmas.{job_read, place_within}
@@ -35,7 +35,22 @@ returns-then-is_last-clause-told g c =
     let read = subst (λ (cs : List Busy). c.index_mut.result.now ≡ get_or cs c.in-Some.place c.index_mut.result.now) c.self.view_is c.index_mut.ensures.value in
     let after = c.remove.ensures.items ∙ is_over_is c.self.inside.busy.items c.args.client c.in-Some.place c.index_mut.result.now c.step.new.self c.in_ok-told.told there (sym c.is_last.ensures ∙ c.if-is_last.true) ∙ ap (λ (cs : List Busy). after_step cs c.args.client c.step.new.self c.in_ok-told.told) c.self.view_is in
     subst (λ job. IsClientStep job c.args.client c.args.self.now c.args.oracle.now (g.T.RowTable.rows c.args.table.now) (Some c.in_ok-told.told) c.remove.new.self.items c.step.new.oracle (g.T.RowTable.rows c.step.new.table))
-    (sym (job_read c.args.self.now c.args.client c.in-Some.place c.index_mut.result.now at read)) (c.in_ok-told.told, refl, c.step.new.self, (c.in_ok-told.ensures {u = tt}).told, (c.in_ok-told.ensures {u = tt}).commit, c.step.ensures.content, after)
+    (sym (job_read c.args.self.now c.args.client c.in-Some.place c.index_mut.result.now at read)) (
+      c.in_ok-told.told,
+      refl,
+      record {
+        after = c.step.new.self;
+        told = (c.in_ok-told.ensures {u = tt}).told;
+        commits = (c.in_ok-told.ensures {u = tt}).commit;
+        moves = c.step.ensures.moves;
+        on = c.step.ensures.on;
+        is = c.step.ensures.job;
+        content = c.step.ensures.content;
+        sound = c.step.ensures.sound;
+        triples = (c.in_ok-told.ensures {u = tt}).triples;
+        left = after;
+      },
+    )
 
 pub returns-then-is_last-clause-sound : goal.returns-then-is_last-clause-sound
 returns-then-is_last-clause-sound g c =
@@ -74,7 +89,22 @@ returns-else-is_last-clause-told g c =
     let read = subst (λ (cs : List Busy). c.index_mut.result.now ≡ get_or cs c.in-Some.place c.index_mut.result.now) c.self.view_is c.index_mut.ensures.value in
     let after = goes_on_is c.self.inside.busy.items c.args.client c.in-Some.place c.index_mut.result.now c.step.new.self c.in_ok-told.told there c.index_mut.ensures.value (sym c.is_last.ensures ∙ c.if-is_last.false) ∙ ap (λ (cs : List Busy). after_step cs c.args.client c.step.new.self c.in_ok-told.told) c.self.view_is in
     subst (λ job. IsClientStep job c.args.client c.args.self.now c.args.oracle.now (g.T.RowTable.rows c.args.table.now) (Some c.in_ok-told.told) (Rattle.std.proofs.Common.slice_set c.self.inside.busy.items c.in-Some.place (record { client = c.index_mut.result.now.client; job = c.step.new.self })) c.step.new.oracle (g.T.RowTable.rows c.step.new.table))
-    (sym (job_read c.args.self.now c.args.client c.in-Some.place c.index_mut.result.now at read)) (c.in_ok-told.told, refl, c.step.new.self, (c.in_ok-told.ensures {u = tt}).told, (c.in_ok-told.ensures {u = tt}).commit, c.step.ensures.content, after)
+    (sym (job_read c.args.self.now c.args.client c.in-Some.place c.index_mut.result.now at read)) (
+      c.in_ok-told.told,
+      refl,
+      record {
+        after = c.step.new.self;
+        told = (c.in_ok-told.ensures {u = tt}).told;
+        commits = (c.in_ok-told.ensures {u = tt}).commit;
+        moves = c.step.ensures.moves;
+        on = c.step.ensures.on;
+        is = c.step.ensures.job;
+        content = c.step.ensures.content;
+        sound = c.step.ensures.sound;
+        triples = (c.in_ok-told.ensures {u = tt}).triples;
+        left = after;
+      },
+    )
 
 pub returns-else-is_last-clause-sound : goal.returns-else-is_last-clause-sound
 returns-else-is_last-clause-sound g c =
@@ -99,3 +129,18 @@ returns-else-is_last-clause-calls g c =
     let read = subst (λ (cs : List Busy). c.index_mut.result.now ≡ get_or cs c.in-Some.place c.index_mut.result.now) c.self.view_is c.index_mut.ensures.value in
     subst (λ job. MakesUpTo (calls_of job c.args.oracle.now (g.T.RowTable.rows c.args.table.now)) (g.T.RowTable.made c.args.table.now) (g.T.RowTable.made c.step.new.table))
     (sym (job_read c.args.self.now c.args.client c.in-Some.place c.index_mut.result.now at read)) c.step.ensures.calls
+
+pub returns-in_err-told-clause-spent_draw : goal.returns-in_err-told-clause-spent_draw
+returns-in_err-told-clause-spent_draw g c is =
+    let at = subst (λ cs. IsPlaceOf cs c.args.client c.in-Some.place) (c.deref.ensures.value ∙ c.self.view_is) c.in-Some.ensures.some in
+    let read = subst (λ (cs : List Busy). c.index_mut.result.now ≡ get_or cs c.in-Some.place c.index_mut.result.now) c.self.view_is c.index_mut.ensures.value in
+    subst DrawsNext (sym (job_read c.args.self.now c.args.client c.in-Some.place c.index_mut.result.now at read)) ((c.in_err-told.ensures {u = tt}).spent_draw (search rules))
+
+pub returns-in_err-told-clause-one : goal.returns-in_err-told-clause-one
+returns-in_err-told-clause-one g c = c.step.ensures.one
+
+pub returns-then-is_last-clause-one : goal.returns-then-is_last-clause-one
+returns-then-is_last-clause-one g c = c.step.ensures.one
+
+pub returns-else-is_last-clause-one : goal.returns-else-is_last-clause-one
+returns-else-is_last-clause-one g c = c.step.ensures.one
