@@ -5,4 +5,6 @@ mod GroupLemmas
 mod KeysAlike
 mod OneValue
 mod RowLemmas
+mod SomeLines
+mod SomeSolutions
 mod TiedTerms

@@ -4,6 +4,8 @@
 mod aggregates;
 mod answers;
 mod groups;
+mod laws;
 mod rows;
 
 pub use answers::lines;
+pub use laws::{lines_are_one_list, lines_exist};
