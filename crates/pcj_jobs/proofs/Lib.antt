@@ -1,0 +1,9 @@
+pub mod ClientLemmas
+pub mod KnownLemmas
+pub mod BesideLemmas
+pub mod CommitLemmas
+pub mod MovesLemmas
+pub mod StepLemmas
+pub mod AgreeLemmas
+pub mod EndLemmas
+pub mod LawLemmas

@@ -1,0 +1,3 @@
+pub mod Known
+pub mod Agrees
+pub mod Laws
