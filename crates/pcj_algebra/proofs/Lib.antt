@@ -1,3 +1,3 @@
-mod MatchLemmas
+pub mod MatchLemmas
 mod NameLemmas
 pub mod OneMatch

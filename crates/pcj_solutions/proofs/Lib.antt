@@ -1,9 +1,9 @@
-mod Contained
-mod JoinLemmas
-mod KeyLemmas
-mod MatchSets
-mod MergeLemmas
-mod OneSet
-mod OrderLemmas
-mod SetLemmas
-mod Solved
+pub mod Contained
+pub mod JoinLemmas
+pub mod KeyLemmas
+pub mod MatchSets
+pub mod MergeLemmas
+pub mod OneSet
+pub mod OrderLemmas
+pub mod SetLemmas
+pub mod Solved

@@ -15,8 +15,9 @@ mod patterns;
 mod sets;
 
 pub use conditions::filter;
-pub use joins::join;
+pub use joins::{alike, compare_on, join, sorted};
 pub use laws::solutions_are_one_list;
 pub use matches::matches_of;
+pub use order::compare_terms;
 pub use patterns::solutions;
 pub use sets::union;

@@ -1,0 +1,10 @@
+mod AggregateLemmas
+mod AnswerLemmas
+mod AscendingLists
+mod GroupLemmas
+mod KeysAlike
+mod OneValue
+mod RowLemmas
+mod SomeLines
+mod SomeSolutions
+mod TiedTerms
