@@ -1,0 +1,6 @@
+mod ReaderLemmas
+mod RecoveryLemmas
+mod RowLemmas
+mod MatchLemmas
+mod ScanLemmas
+mod RangeLemmas

@@ -1,0 +1,4 @@
+pub mod Errors
+pub mod Readers
+pub mod Ranges
+pub mod Scans
