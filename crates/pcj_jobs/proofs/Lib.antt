@@ -7,3 +7,6 @@ pub mod StepLemmas
 pub mod AgreeLemmas
 pub mod EndLemmas
 pub mod LawLemmas
+pub mod ComposeLemmas
+pub mod ReachLemmas
+pub mod FinishLemmas

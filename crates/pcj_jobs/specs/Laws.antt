@@ -1,6 +1,6 @@
 -- How what is known of the loads in flight stays true.
-use Rattle.std.specs.Prelude.{◌≡◌, ◌≤◌, ◌^◌, ℕ, List, [], ◌∷◌, ◌++◌, Option, Some, None}
-use Rattle.pcj_table.specs.Table.{Key, Table}
+use Rattle.std.specs.Prelude.{◌≡◌, ◌≢◌, ◌⊎◌, ◌≤◌, ◌+◌, ◌^◌, ℕ, false, List, [], ◌∷◌, ◌++◌, Option, Some, None}
+use Rattle.pcj_table.specs.Table.{Key, Table, row_at}
 use Rattle.pcj_oracle.specs.Clock.{next_number}
 use Rattle.pcj_oracle.specs.Draw.{Keeps}
 use Rattle.pcj_oracle.specs.declared.block.Block.{Block}
@@ -10,10 +10,15 @@ use Rattle.pcj_moves.specs.Moves.{Makes, Move}
 use Rattle.pcj_actor.specs.StepLaws as step
 use Rattle.pcj_fit.specs.Laws.{state_of}
 use Rattle.pcj_fit.specs.Sound.{Sound}
+use Rattle.pcj_fit.specs.Triples.{HasTriples}
 use Rattle.pcj_client.specs.Job.{IsLoadJob, Job}
 use Rattle.pcj_client.specs.declared.event.JobEvent.{JobEvent}
 use Rattle.pcj_clients.specs.Clients.{actors_of, job_of, without_job}
 use Rattle.pcj_clients.specs.Laws.{IsJobStep}
+use Rattle.pcj_clients.specs.Steps.{AreSteps, AreStepsOf, Told, WantsMemory, no_steps, stepped_from}
+use Rattle.pcj_clients.specs.declared.stepped.Stepped.{Stepped}
+use Rattle.pcj_clients.specs.declared.stepped.StepsEnd.{StepsEnd}
+use Rattle.pcj_clients.specs.declared.stepped.StepsEnd.TheVariants as all
 use Rattle.pcj_clients.specs.declared.busy.Busy.{Busy}
 use Rattle.pcj_model.specs.Job as told
 use Rattle.pcj_model.specs.State.{State, all_beside, stepped, with_job}
@@ -72,3 +77,68 @@ abbrev pub FaultAgrees : Type 0
 FaultAgrees = (client : ℕ) (clients : List Busy) (oracle : Option Block) (table : Table) (oracle' : Option Block) (table' : Table) (job : Job) (others : List Actor) (state : State) →
     job_of clients client ≡ Some job → Keeps oracle table oracle' table' → Sound (step.state_of oracle table (actors_of clients ++ others)) → Agrees oracle table clients state →
     (known : told.Job) × (state.jobs client ≡ Some known) × Agrees oracle' table' clients (stepped state client known None (Some known) 1)
+
+-- ---- the steps of a command
+
+-- how they end
+abbrev pub IsEndOf : StepsEnd → told.StepsEnd → Type 0
+IsEndOf all.AllMade end = end ≡ told.StepsEnd.AllMade
+IsEndOf all.Nothing end = ⊥
+IsEndOf all.Done end = end ≡ told.StepsEnd.IsDone
+IsEndOf all.Aborted end = end ≡ told.StepsEnd.IsAborted
+IsEndOf all.Taken end = ⊥
+IsEndOf all.Fault end = end ≡ told.StepsEnd.Fails
+IsEndOf all.Spent end = ⊥
+
+-- They are answered as the load allows of which so much is known, and the state behind the answer is true.
+pub record StepsAnswer (client most : ℕ) (new : List Busy) (oracle' : Option Block) (table' : Table) (state : State) (came : Stepped) : Type 0 where
+  pub known : told.Job
+  pub has : state.jobs client ≡ Some known
+  pub end : told.StepsEnd
+  pub ends_as : IsEndOf came.end end
+  pub after : Option told.Job
+  pub reply : told.StepsReply known client most (told.steps_lines client came.commit end came.count) came.commit after
+  pub count : reply.count ≡ came.count
+  pub agrees : Agrees oracle' table' new (stepped state client known came.commit after came.count)
+
+abbrev pub StepsAgree : Type 0
+StepsAgree = (client most : ℕ) (old : List Busy) (oracle : Option Block) (table : Table) (events : List Told) (new : List Busy) (oracle' : Option Block) (table' : Table) (job : Job) (others : List Actor) (state : State) →
+    job_of old client ≡ Some job → 1 ≤ most → AreStepsOf client most old oracle table events new oracle' table' → (stepped_from no_steps events).end ≢ all.Spent → Sound (step.state_of oracle table (actors_of old ++ others)) →
+    next_number oracle' table' ≤ 2 ^ 48 → Agrees oracle table old state → StepsAnswer client most new oracle' table' state (stepped_from no_steps events)
+
+-- Where the last would draw 2^48, none of them drew a commit, and the triples are those from before.
+pub record SpentKnown (client : ℕ) (new : List Busy) (oracle' : Option Block) (table' : Table) (state : State) (came : Stepped) : Type 0 where
+  pub known : told.Job
+  pub has : state.jobs client ≡ Some known
+  pub undone : known.is_committed ≡ false
+  pub commit : came.commit ≡ None
+  pub made : ℕ
+  pub count : came.count ≡ made + 1
+  pub agrees : Agrees oracle' table' new (stepped state client known None (Some (told.grown known None made)) came.count)
+  pub triples : HasTriples (row_at table') state.triples
+
+abbrev pub SpentAgrees : Type 0
+SpentAgrees = (client most : ℕ) (old : List Busy) (oracle : Option Block) (table : Table) (events : List Told) (new : List Busy) (oracle' : Option Block) (table' : Table) (job : Job) (others : List Actor) (state : State) →
+    job_of old client ≡ Some job → 1 ≤ most → AreStepsOf client most old oracle table events new oracle' table' → (stepped_from no_steps events).end ≡ all.Spent → Sound (step.state_of oracle table (actors_of old ++ others)) →
+    next_number oracle' table' ≤ 2 ^ 48 → Agrees oracle table old state → SpentKnown client new oracle' table' state (stepped_from no_steps events)
+
+-- Where there was no memory for the last, no triple joined, or the load's did, and the state behind the steps before is true.
+pub record ShortKnown (client most : ℕ) (new : List Busy) (oracle' : Option Block) (table' : Table) (state : State) : Type 0 where
+  pub known : told.Job
+  pub has : state.jobs client ≡ Some known
+  pub commit : Option ℕ
+  pub count : ℕ
+  pub commits : told.MayCommit known commit
+  pub left : HasTriples (row_at table') state.triples ⊎ ((1 ≤ count) × (count ≤ most) × Agrees oracle' table' new (stepped state client known commit (Some (told.grown known commit count)) count))
+
+abbrev pub ShortAgrees : Type 0
+ShortAgrees = (client most : ℕ) (old : List Busy) (oracle : Option Block) (table : Table) (events : List Told) (new : List Busy) (oracle' : Option Block) (table' : Table) (job : Job) (others : List Actor) (state : State) →
+    job_of old client ≡ Some job → WantsMemory client most old oracle table events new oracle' table' → Sound (step.state_of oracle table (actors_of old ++ others)) → next_number oracle' table' ≤ 2 ^ 48 → Agrees oracle table old state →
+    ShortKnown client most new oracle' table' state
+
+-- ---- numbers
+
+-- no step makes the next number fall
+abbrev pub NumbersNeverFall : Type 0
+NumbersNeverFall = (events : List Told) (client : ℕ) (old : List Busy) (oracle : Option Block) (table : Table) (new : List Busy) (oracle' : Option Block) (table' : Table) (others : List Actor) → AreSteps events client old oracle table new oracle' table' →
+    Sound (step.state_of oracle table (actors_of old ++ others)) → next_number oracle table ≤ next_number oracle' table'

@@ -1,8 +1,10 @@
 //! What a reader of the transcript knows of the loads in flight, and that it is true.
 #![tactic(auto)]
 
+mod commands;
 mod known;
 mod steps;
 
+pub use commands::commands_agree;
 pub use known::{jobs_begin_and_end, others_step_beside};
 pub use steps::steps_agree;
