@@ -9,6 +9,7 @@
 #![tactic(auto)]
 
 mod calls;
+mod lines;
 mod parts;
 mod show;
 mod words;

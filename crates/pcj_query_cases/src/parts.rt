@@ -13,6 +13,7 @@ pub(crate) struct Parts {
     conditions: Vec<Expr>,
     patterns: Vec<Pattern>,
     bindings: Items<Binding>,
+    triples: Vec<Triple>,
 }
 
 impl Parts {
@@ -24,6 +25,7 @@ impl Parts {
             conditions: Vec::new(alloc),
             patterns: Vec::new(alloc),
             bindings: Items::new(alloc),
+            triples: Vec::new(alloc),
         }
     }
 
@@ -126,6 +128,18 @@ impl Parts {
             predicate,
             object,
         })
+    }
+
+    /// Adds the triple of the last three operands to the set of triples.
+    pub(crate) fn fact(&mut self) -> Result<(), Unanswered> {
+        let triple = self.take_triple()?;
+        self.triples.push(triple)?;
+        Ok(())
+    }
+
+    /// The set of triples.
+    pub(crate) fn triples(&self) -> &[Triple] {
+        self.triples.as_slice()
     }
 
     fn take_term(&mut self) -> Result<Term, Unanswered> {

@@ -1,4 +1,5 @@
 use crate::calls::{answer_match, answer_rows, answer_truth, answer_variables};
+use crate::lines::{answer_group_lines, answer_lines, answer_solutions};
 use crate::parts::Parts;
 use crate::show::{show_mapping, show_query, show_truth};
 use pcj_algebra::{Aggregate, Query};
@@ -31,6 +32,12 @@ fn answer_word(
         "match" => answer_match(alloc, parts, out),
         "variables" => answer_variables(alloc, parts, out),
         "rows" => answer_rows(alloc, parts, out),
+        "solutions" => answer_solutions(alloc, parts, out),
+        "lines" => answer_lines(alloc, parts, out),
+        "count_lines" => answer_group_lines(alloc, parts, out, Aggregate::Count),
+        "sum_lines" => answer_group_lines(alloc, parts, out, Aggregate::Sum),
+        "min_lines" => answer_group_lines(alloc, parts, out, Aggregate::Min),
+        "max_lines" => answer_group_lines(alloc, parts, out, Aggregate::Max),
         "distinct" => end_distinct(alloc, parts, out),
         "count" => end_group(alloc, parts, out, Aggregate::Count),
         "sum" => end_group(alloc, parts, out, Aggregate::Sum),
@@ -56,6 +63,7 @@ fn add_word(parts: &mut Parts, word: &str) -> Result<(), Unanswered> {
         "union" => parts.union(),
         "filter" => parts.filter(),
         "bind" => parts.bind(),
+        "fact" => parts.fact(),
         _ => parts.operand(word.as_bytes()),
     }
 }
