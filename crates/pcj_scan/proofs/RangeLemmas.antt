@@ -1,5 +1,5 @@
 -- Walks over a range: what each step meets, and what they come to.
-use Rattle.std.proofs.Common.{◌≡◌, ◌⊎◌, inl, inr, ◌≤◌, ◌<◌, ◌+◌, ◌*◌, ℕ, zero, suc, Bool, true, false, cond, nat_le, ◌&&◌, List, [], ◌∷◌, ◌++◌, map, take, Option, Some, None, IfSome, refl, ap, sym, subst, ◌∙◌, arith}
+use Rattle.std.proofs.Common.{◌≡◌, ◌≤◌, ◌+◌, ℕ, zero, suc, Bool, true, false, cond, nat_le, List, [], ◌∷◌, ◌++◌, map, take, Option, Some, None, IfSome, refl, ap, sym, subst, ◌∙◌, arith}
 use Rattle.std.proofs.lemmas.List.{map-append}
 use Rattle.std.proofs.lemmas.Bool.{and_parts}
 use Rattle.pcj_table.specs.declared.found.Found.{Found}
@@ -15,7 +15,6 @@ use Rattle.pcj_patterns.specs.Serving.{rows_of}
 use Rattle.pcj_mvcc.specs.Reading.{Put, Rows, lock_up_to}
 use Rattle.pcj_mvcc.specs.Times.{TimesInOrder}
 use Rattle.pcj_moves.specs.declared.answer.Answer.{Answer}
-use Rattle.pcj_moves.specs.declared.answer.Answer.TheVariants.{OfRange}
 use Rattle.pcj_moves.specs.Moves.{Read as Reading}
 use Rattle.pcj_moves.specs.Reads as moves
 use Rattle.pcj_snapshot.specs.declared.ask.Ask.TheVariants.{Next}
@@ -25,12 +24,11 @@ use Rattle.pcj_snapshot.specs.Reads.{Read, found_event, lock_event, put_at, read
 use Rattle.pcj_snapshot.specs.Shown.{HasNoPlain, Shows, ShowsAt}
 use Rattle.pcj_recover.specs.Steps.{KeepPlain}
 use Rattle.pcj_fit.proofs.SoundLemmas.{sound_is_fit}
-use Rattle.pcj_pending.specs.Pending.{locks_of}
 use Rattle.pcj_scan.specs.Ranges.{AddsMatchOf, AddsNoRow, AreRead, IsAhead, IsRead, IsReadUpTo, NeverHasPlain, answer_of, rows_for, rows_in}
 use Rattle.pcj_scan.specs.Readers.{ReadsInPart, ReadsOn}
 use Rattle.pcj_scan.specs.Scans.{walked}
 use Rattle.pcj_scan.proofs.MatchLemmas.{all_among, first_among, none_read, range_read, read_among, row_read, second_among}
-use Rattle.pcj_scan.proofs.ReaderLemmas.{in_part, part_then, reads_nothing, reads_then}
+use Rattle.pcj_scan.proofs.ReaderLemmas.{part_then, reads_nothing, reads_then}
 use Rattle.pcj_scan.proofs.RowLemmas.{never_plain, no_more_rows, one_row_fewer, still_never_plain}
 
 -- ---- what a step meets

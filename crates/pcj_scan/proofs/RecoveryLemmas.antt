@@ -1,10 +1,10 @@
 -- What is done with a lock that is met: a reader's moves, after which the lock is gone.
-use Rattle.std.proofs.Common.{◌≡◌, ◌≢◌, ◌⊎◌, inl, inr, ◌≤◌, ◌<◌, ◌+◌, ℕ, Bool, true, false, cond, not, is_some, ◌&&◌, List, [], ◌∷◌, ◌++◌, filter, length, Option, Some, None, refl, ap, sym, subst, ◌∙◌, arith}
+use Rattle.std.proofs.Common.{◌≡◌, ◌≢◌, ◌⊎◌, inl, inr, ◌≤◌, ◌+◌, ℕ, Bool, true, false, cond, is_some, ◌&&◌, List, [], ◌∷◌, ◌++◌, filter, length, Option, Some, None, refl, ap, sym, subst, ◌∙◌, arith}
 use Rattle.std.proofs.lemmas.Bool.{eq-eqb}
 use Rattle.std.specs.FinMap as finmap
 use Rattle.std.specs.List.{Contains}
 use Rattle.pcj_term.specs.Order.{same_bytes}
-use Rattle.pcj_term.proofs.ByteLemmas.{same_bytes_are, same_bytes_itself}
+use Rattle.pcj_term.proofs.ByteLemmas.{same_bytes_are}
 use Rattle.pcj_table.specs.declared.lock.Lock.{Lock}
 use Rattle.pcj_table.specs.declared.row.Row.{Row}
 use Rattle.pcj_table.specs.declared.mutated.Mutated.{Mutated}
@@ -16,9 +16,9 @@ use Rattle.pcj_table.proofs.EntryLemmas.{Entry, there_with_row}
 use Rattle.pcj_mvcc.specs.declared.act.Act.{Act}
 use Rattle.pcj_mvcc.specs.Acts.{roll_back_act, roll_forward_act}
 use Rattle.pcj_mvcc.specs.Reading.{Rows, CarriesOut, acted, allows}
-use Rattle.pcj_mvcc.proofs.Rows.{put_other, put_same}
+use Rattle.pcj_mvcc.proofs.Rows.{put_other}
 use Rattle.pcj_moves.specs.Actors.{Actor, new_actor, with_recovery}
-use Rattle.pcj_moves.specs.Moves.{DropPrimary, EndRecovery, Learn, Makes, Meet, Move, RollBack, RollForward}
+use Rattle.pcj_moves.specs.Moves.{DropPrimary, EndRecovery, Makes, Meet, Move, RollBack, RollForward}
 use Rattle.pcj_moves.specs.Recoveries.{Recovery, new_recovery}
 use Rattle.pcj_moves.proofs.StepLemmas.{met_is_other, nothing_is_free}
 use Rattle.pcj_recover.specs.declared.event.RecoveryEvent.{RecoveryEvent}

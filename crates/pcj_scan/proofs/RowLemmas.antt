@@ -10,10 +10,10 @@ use Rattle.std.proofs.lemmas.List.Elements.{Contains-push, Contains-push_cases, 
 use Rattle.pcj_term.specs.declared.term.Term.{Term}
 use Rattle.pcj_term.specs.declared.triple.Triple.{Triple}
 use Rattle.pcj_term.proofs.ByteLemmas.{less_is}
-use Rattle.pcj_term.proofs.ListLemmas.{nothing_in, first_or_later, first_there, later_there}
+use Rattle.pcj_term.proofs.ListLemmas.{nothing_in, first_or_later}
 use Rattle.pcj_table.specs.declared.row.Row.{Row}
 use Rattle.pcj_table.specs.Row.{has_nothing}
-use Rattle.pcj_table.specs.Table.{Key, Table, bytes_cmp, is_before, is_between, row_at, rows_that}
+use Rattle.pcj_table.specs.Table.{Key, Table, is_before, is_between, row_at}
 use Rattle.pcj_table.proofs.EntryLemmas.{Entry, there_with_row}
 use Rattle.pcj_table.proofs.RowLemmas.{no_row_is}
 use Rattle.pcj_key.specs.Key as parts
@@ -23,7 +23,7 @@ use Rattle.pcj_encode.specs.declared.order.Order.{Order}
 use Rattle.pcj_encode.specs.declared.order.Order.TheVariants.{Spo, Pos, Osp}
 use Rattle.pcj_encode.specs.declared.key_name.KeyName.{KeyName}
 use Rattle.pcj_encode.specs.declared.key_name.KeyName.TheVariants as row
-use Rattle.pcj_encode.specs.Name.{IsTriple, key_of}
+use Rattle.pcj_encode.specs.Name.{key_of}
 use Rattle.pcj_encode.specs.Read.{ReadsKey}
 use Rattle.pcj_encode.proofs.Names.{names_one_row, reads_back}
 use Rattle.pcj_expr.specs.declared.mapping.Mapping.{Mapping}
@@ -31,10 +31,8 @@ use Rattle.pcj_algebra.specs.declared.triple_pattern.TriplePattern.{TriplePatter
 use Rattle.pcj_algebra.specs.Match.{Matches}
 use Rattle.pcj_algebra.proofs.OneMatch.{matches_once}
 use Rattle.pcj_solutions.specs.Solutions.{AddsMatch}
-use Rattle.pcj_patterns.specs.Serving.{front_of, order_letter, rows_of, serving}
+use Rattle.pcj_patterns.specs.Serving.{front_of, rows_of, serving}
 use Rattle.pcj_oracle.specs.Clock.{clock_key}
-use Rattle.pcj_mvcc.specs.Reading.{Rows}
-use Rattle.pcj_fit.specs.Fit.{Fit}
 use Rattle.pcj_fit.proofs.RowLemmas.{is_written, to_versions}
 use Rattle.pcj_pending.proofs.CountLemmas.{added_at_most}
 use Rattle.pcj_scan.specs.Ranges.{AddsMatchOf, AddsNoRow, IsAhead, IsRowOf, IsTripleOf, NeverHasPlain, rows_in}

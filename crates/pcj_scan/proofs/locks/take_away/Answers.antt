@@ -1,5 +1,4 @@
-use Rattle.std.proofs.Common.{◌≡◌, ◌≢◌, subst, arith}
-use Rattle.pcj_recover.specs.declared.event.RecoveryEvent.TheVariants.{Working}
+use Rattle.std.proofs.Common.{subst, arith}
 use Rattle.pcj_recover.specs.Steps.{Steps}
 use Rattle.pcj_scan.proofs.ReaderLemmas.{in_part}
 use Rattle.pcj_table.specs.Table.{row_at}

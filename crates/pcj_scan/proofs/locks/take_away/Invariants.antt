@@ -1,9 +1,5 @@
-use Rattle.std.proofs.Common.{ℕ, ◌≤◌, ◌+◌}
-use Rattle.pcj_table.specs.Table.{row_at}
+use Rattle.std.proofs.Common.{◌≤◌, ◌+◌}
 use Rattle.pcj_recover.specs.Progress.{steps_left}
-use Rattle.pcj_recover.specs.Steps.{KeepPlain}
-use Rattle.pcj_pending.specs.Pending.{locks_of}
-use Rattle.pcj_scan.specs.Ranges.{AddsNoRow}
 use Rattle.pcj_scan.proofs.RecoveryLemmas.{Resolving}
 use Rattle.pcj_scan.proofs.locks.take_away.Given as goal
 

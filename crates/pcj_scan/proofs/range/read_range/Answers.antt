@@ -1,4 +1,4 @@
-use Rattle.std.proofs.Common.{rules, ◌≡◌, ◌+◌, ◌≤◌, List, None, ap, sym, subst, ◌∙◌, arith}
+use Rattle.std.proofs.Common.{rules, ◌≡◌, List, None, ap, sym, subst, ◌∙◌, arith}
 use Rattle.pcj_table.specs.Table.{Key}
 use Rattle.pcj_encode.specs.declared.key_range.KeyRange.{KeyRange}
 use Rattle.pcj_expr.specs.declared.mapping.Mapping.{Mapping}
