@@ -42,7 +42,7 @@ known_stays before after job known same has is = record {
   untouched = λ undone rival triple its key row. ap (are_below job.actor.start) (same key) ∙ is.untouched undone rival triple its key row;
 }
 
-read_alike : (before after : Rows) → SameButPlain before after → SameReading before after
+pub read_alike : (before after : Rows) → SameButPlain before after → SameReading before after
 read_alike before after same key =
     ap (λ l. reading (committed after) l (after key).versions) (same key).0 ∙ ap (λ vs. reading (committed after) (before key).lock vs) (same key).1 ∙ by (before key).lock
   where

@@ -10,3 +10,4 @@ pub mod LawLemmas
 pub mod ComposeLemmas
 pub mod ReachLemmas
 pub mod FinishLemmas
+pub mod StateLemmas

@@ -1,8 +1,8 @@
 -- How what is known of the loads in flight stays true.
 use Rattle.std.specs.Prelude.{◌≡◌, ◌≢◌, ◌⊎◌, ◌≤◌, ◌+◌, ◌^◌, ℕ, false, List, [], ◌∷◌, ◌++◌, Option, Some, None}
 use Rattle.pcj_table.specs.Table.{Key, Table, row_at}
-use Rattle.pcj_oracle.specs.Clock.{next_number}
-use Rattle.pcj_oracle.specs.Draw.{Keeps}
+use Rattle.pcj_oracle.specs.Clock.{IsClock, next_number}
+use Rattle.pcj_oracle.specs.Draw.{IsNumber, Keeps}
 use Rattle.pcj_oracle.specs.declared.block.Block.{Block}
 use Rattle.pcj_mvcc.specs.Reading.{Rows}
 use Rattle.pcj_moves.specs.Actors.{Actor, new_actor}
@@ -21,7 +21,7 @@ use Rattle.pcj_clients.specs.declared.stepped.StepsEnd.{StepsEnd}
 use Rattle.pcj_clients.specs.declared.stepped.StepsEnd.TheVariants as all
 use Rattle.pcj_clients.specs.declared.busy.Busy.{Busy}
 use Rattle.pcj_model.specs.Job as told
-use Rattle.pcj_model.specs.State.{State, all_beside, stepped, with_job}
+use Rattle.pcj_model.specs.State.{State, all_beside, stepped, with_job, with_jobs, with_load}
 use Rattle.pcj_jobs.specs.Agrees.{Agrees, EndsAs, commit_told, known_after}
 use Rattle.pcj_jobs.specs.Known.{AreKnown}
 
@@ -142,3 +142,32 @@ ShortAgrees = (client most : ℕ) (old : List Busy) (oracle : Option Block) (tab
 abbrev pub NumbersNeverFall : Type 0
 NumbersNeverFall = (events : List Told) (client : ℕ) (old : List Busy) (oracle : Option Block) (table : Table) (new : List Busy) (oracle' : Option Block) (table' : Table) (others : List Actor) → AreSteps events client old oracle table new oracle' table' →
     Sound (step.state_of oracle table (actors_of old ++ others)) → next_number oracle table ≤ next_number oracle' table'
+
+-- ---- whole states
+
+-- a draw, which writes the clock's plain value at most
+abbrev pub DrawAgrees : Type 0
+DrawAgrees = (number : ℕ) (clients : List Busy) (oracle : Option Block) (table : Table) (oracle' : Option Block) (table' : Table) (state : State) → IsNumber number oracle table oracle' table' → Agrees oracle table clients state → Agrees oracle' table' clients state
+
+-- a load that begins with the number that was drawn for it
+abbrev pub OpensAgrees : Type 0
+OpensAgrees = (number : ℕ) (clients : List Busy) (oracle : Option Block) (table : Table) (oracle' : Option Block) (table' : Table) (others : List Actor) (state : State) (client : ℕ) (job : Job) → IsNumber number oracle table oracle' table' →
+    Sound (step.state_of oracle table others) → IsLoadJob job → job.actor ≡ new_actor number → job_of clients client ≡ None → Agrees oracle table clients state →
+    Agrees oracle' table' (clients ++ (record { client = client; job = job }) ∷ []) (with_load state client number job.triples)
+
+-- the load of a client that ends where it stands, and all of them
+abbrev pub CrashAgrees : Type 0
+CrashAgrees = (clients : List Busy) (oracle : Option Block) (table : Table) (state : State) (client : ℕ) → Agrees oracle table clients state → Agrees oracle table (without_job clients client) (with_jobs state (with_job state.jobs client None))
+
+abbrev pub AllCrashAgree : Type 0
+AllCrashAgree = (clients : List Busy) (oracle : Option Block) (table : Table) (state : State) → Agrees oracle table clients state → Agrees oracle table [] (with_jobs state (λ client. None))
+
+-- an oracle that is lost: the next number is the stored one then
+abbrev pub LostAgrees : Type 0
+LostAgrees = (clients : List Busy) (oracle : Option Block) (table : Table) (state : State) → IsClock oracle table → Agrees oracle table clients state → Agrees None table clients state
+
+-- moves of somebody else that prewrite and commit nothing, as those of a reader
+abbrev pub BesideAgrees : Type 0
+BesideAgrees = (moves : List Move) (clients : List Busy) (oracle : Option Block) (table : Table) (actor : Actor) (oracle' : Option Block) (table' : Table) (actor' : Actor) (others : List Actor) (state : State) →
+    Makes moves (next_number oracle table) (row_at table) actor (next_number oracle' table') (row_at table') actor' → actor'.transaction.committed ≡ actor.transaction.committed → actor'.transaction.prewritten ≤ actor.transaction.prewritten →
+    Sound (step.state_of oracle table (actor ∷ (actors_of clients ++ others))) → Agrees oracle table clients state → Agrees oracle' table' clients (with_jobs state (all_beside [] state.jobs))
