@@ -1,0 +1,12 @@
+//! Query trees: a node for each part of a query, and the form in which a tree is stored.
+#![tactic(auto)]
+
+mod building;
+mod node;
+mod order;
+mod sizes;
+mod tree;
+
+pub use building::build;
+pub use node::{Node, NodeKind};
+pub use tree::Tree;
