@@ -4,9 +4,13 @@
 mod building;
 mod node;
 mod order;
+mod parts;
 mod sizes;
+mod storing;
+mod storing_expr;
 mod tree;
 
 pub use building::build;
 pub use node::{Node, NodeKind};
+pub use storing::store_tree;
 pub use tree::Tree;
