@@ -2,3 +2,4 @@ pub mod Order
 pub mod Tree
 pub mod Stored
 pub mod Read
+pub mod Reading

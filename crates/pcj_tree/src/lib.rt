@@ -2,9 +2,12 @@
 #![tactic(auto)]
 
 mod building;
+mod fields;
 mod node;
 mod order;
 mod parts;
+mod reading;
+mod reading_expr;
 mod sizes;
 mod storing;
 mod storing_expr;
@@ -12,5 +15,6 @@ mod tree;
 
 pub use building::build;
 pub use node::{Node, NodeKind};
+pub use reading::read_tree;
 pub use storing::store_tree;
 pub use tree::Tree;

@@ -28,11 +28,7 @@ pub(crate) fn push_number(
     push_bytes(alloc, parts, &number.to_be_bytes())
 }
 
-pub(crate) fn push_slot(
-    alloc: Global,
-    parts: &mut Items<Bytes>,
-    slot: &Slot,
-) -> Result<(), Memory>
+pub(crate) fn push_slot(alloc: Global, parts: &mut Items<Bytes>, slot: &Slot) -> Result<(), Memory>
     ensures { OnOk result (parts.new ≡ parts.old ++ slot_part slot.now ∷ []) }
 {
     match slot {

@@ -89,12 +89,7 @@ fn push_fields(alloc: Global, parts: &mut Items<Bytes>, kind: &NodeKind) -> Resu
     }
 }
 
-fn push_two(
-    alloc: Global,
-    parts: &mut Items<Bytes>,
-    left: u16,
-    right: u16,
-) -> Result<(), Memory>
+fn push_two(alloc: Global, parts: &mut Items<Bytes>, left: u16, right: u16) -> Result<(), Memory>
     ensures { OnOk result (parts.new ≡ parts.old ++ node_part left ∷ node_part right ∷ []) }
 {
     push_number(alloc, parts, left)?;
