@@ -29,10 +29,10 @@ use Rattle.pcj_tree.proofs.SplitLemmas.{split_takes, split_again}
 all_from : {X : Type 0} (P : X → Type 0) (xs : List X) → ((x : X) → Contains xs x → P x) → All P xs
 all_from P xs each k d within = each _ (Contains-get_or xs k d within)
 
-all_left : {X : Type 0} (P : X → Type 0) (xs ys : List X) → All P (xs ++ ys) → All P xs
+pub all_left : {X : Type 0} (P : X → Type 0) (xs ys : List X) → All P (xs ++ ys) → All P xs
 all_left P xs ys all = all_from P xs (λ x there. All-contains P (xs ++ ys) x all (Contains-append_left xs ys x there))
 
-all_right : {X : Type 0} (P : X → Type 0) (xs ys : List X) → All P (xs ++ ys) → All P ys
+pub all_right : {X : Type 0} (P : X → Type 0) (xs ys : List X) → All P (xs ++ ys) → All P ys
 all_right P xs ys all = all_from P ys (λ x there. All-contains P (xs ++ ys) x all (Contains-append_right xs ys x there))
 
 -- ---- what is said of a condition, by its outermost operator

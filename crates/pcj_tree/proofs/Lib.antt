@@ -5,3 +5,5 @@ pub mod SlotLemmas
 pub mod ExprLemmas
 pub mod NodeLemmas
 pub mod ExprReading
+pub mod StoredLaws
+pub mod MeaningLemmas

@@ -3,3 +3,5 @@ pub mod Tree
 pub mod Stored
 pub mod Read
 pub mod Reading
+pub mod Laws
+pub mod Meaning

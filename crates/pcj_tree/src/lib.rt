@@ -3,6 +3,7 @@
 
 mod building;
 mod fields;
+mod laws;
 mod node;
 mod order;
 mod parts;
@@ -14,6 +15,7 @@ mod storing_expr;
 mod tree;
 
 pub use building::build;
+pub use laws::{nodes_mean_their_parts, one_stored_form, trees_can_be_stored};
 pub use node::{Node, NodeKind};
 pub use reading::read_tree;
 pub use storing::store_tree;

@@ -1,0 +1,19 @@
+ghost use Rattle.pcj_tree.specs.Laws.{ReadsBack, StoresOneTree, CanBeStored};
+ghost use Rattle.pcj_tree.specs.Meaning.{NodesMeanParts};
+
+/// What is stored of a tree is read as that tree, and no two trees have one stored form.
+pub fn one_stored_form()
+    ensures back { ReadsBack }
+    ensures one { StoresOneTree }
+{}
+
+/// The tree of a query of valid terms can be stored.
+pub fn trees_can_be_stored()
+    ensures { CanBeStored }
+{}
+
+/// Each node of a query's tree is for a part of the query: over all triples, what the node says by its kind and its children are
+/// the solutions of that part.
+pub fn nodes_mean_their_parts()
+    ensures { NodesMeanParts }
+{}
