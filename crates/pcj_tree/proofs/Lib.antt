@@ -7,3 +7,4 @@ pub mod NodeLemmas
 pub mod ExprReading
 pub mod StoredLaws
 pub mod MeaningLemmas
+pub mod RowLemmas

@@ -36,10 +36,10 @@ numbered_middle [] back x = refl
 numbered_middle (y ∷ front) back x = numbered_middle front back x
 
 -- the same, where the number is known by an equation
-numbered_at : {X : Type 0} (all front back : List X) (x : X) (number : ℕ) → all ≡ front ++ x ∷ back → number ≡ suc (length front) → numbered all number ≡ Some x
+pub numbered_at : {X : Type 0} (all front back : List X) (x : X) (number : ℕ) → all ≡ front ++ x ∷ back → number ≡ suc (length front) → numbered all number ≡ Some x
 numbered_at {X} all front back x number is at = ap (λ (xs : List X). numbered xs number) is ∙ ap (numbered (front ++ x ∷ back)) at ∙ numbered_middle front back x
 
-zip_append : {X Y : Type 0} (R : X → Y → Type 0) (xs others : List X) (ys more : List Y) → AllZip R xs ys → AllZip R others more → AllZip R (xs ++ others) (ys ++ more)
+pub zip_append : {X Y : Type 0} (R : X → Y → Type 0) (xs others : List X) (ys more : List Y) → AllZip R xs ys → AllZip R others more → AllZip R (xs ++ others) (ys ++ more)
 zip_append R [] others [] more zip rest = rest
 zip_append R [] others (y ∷ ys) more zip rest = absurd zip
 zip_append R (x ∷ xs) others [] more zip rest = absurd zip
@@ -55,33 +55,33 @@ zip_at R (x ∷ xs) (z ∷ ys) (suc (suc number)) y zip e = zip_at R xs ys (suc 
 
 -- ---- the parts of a pattern that has nodes
 
-record Shaped (p : Pattern) : Type 0 where
-  whole : (with_parts p).0 ≡ p
-  front : List Pattern
-  ends : parts_of p ≡ front ++ p ∷ []
-  long : suc (length front) ≡ size_of p
+pub record Shaped (p : Pattern) : Type 0 where
+  pub whole : (with_parts p).0 ≡ p
+  pub front : List Pattern
+  pub ends : parts_of p ≡ front ++ p ∷ []
+  pub long : suc (length front) ≡ size_of p
 
-parts_long : (p : Pattern) → Shaped p → length (parts_of p) ≡ size_of p
+pub parts_long : (p : Pattern) → Shaped p → length (parts_of p) ≡ size_of p
 parts_long p shaped = let e = ap length shaped.ends ∙ length-append shaped.front (p ∷ []) in let long = shaped.long in omega (arith, e, long)
 
-abbrev Parted : Type 0
+abbrev pub Parted : Type 0
 Parted = Pattern × List Pattern
 
-parts_triple : (of : TriplePattern) → with_parts (pattern.Triple of) ≡ (pattern.Triple of, pattern.Triple of ∷ [])
+pub parts_triple : (of : TriplePattern) → with_parts (pattern.Triple of) ≡ (pattern.Triple of, pattern.Triple of ∷ [])
 parts_triple of = ap with_parts (sym (rolls-Triple of)) ∙ fold-roll-Pattern Parted parts_step (open_pattern.Triple of)
 
-parts_join : (left right : Pattern) → (with_parts left).0 ≡ left → (with_parts right).0 ≡ right → with_parts (pattern.Join left right) ≡ (pattern.Join left right, parts_of left ++ (parts_of right ++ pattern.Join left right ∷ []))
+pub parts_join : (left right : Pattern) → (with_parts left).0 ≡ left → (with_parts right).0 ≡ right → with_parts (pattern.Join left right) ≡ (pattern.Join left right, parts_of left ++ (parts_of right ++ pattern.Join left right ∷ []))
 parts_join left right l r =
     ap with_parts (sym (rolls-Join left right)) ∙ fold-roll-Pattern Parted parts_step (open_pattern.Join left right)
     ∙ ap (λ (p : Pattern). (pattern.Join p (with_parts right).0, parts_of left ++ (parts_of right ++ pattern.Join p (with_parts right).0 ∷ []))) l
     ∙ ap (λ (p : Pattern). (pattern.Join left p, parts_of left ++ (parts_of right ++ pattern.Join left p ∷ []))) r
 
-parts_filter : (condition : Expr) (inner : Pattern) → (with_parts inner).0 ≡ inner → with_parts (pattern.Filter condition inner) ≡ (pattern.Filter condition inner, parts_of inner ++ pattern.Filter condition inner ∷ [])
+pub parts_filter : (condition : Expr) (inner : Pattern) → (with_parts inner).0 ≡ inner → with_parts (pattern.Filter condition inner) ≡ (pattern.Filter condition inner, parts_of inner ++ pattern.Filter condition inner ∷ [])
 parts_filter condition inner i =
     ap with_parts (sym (rolls-Filter condition inner)) ∙ fold-roll-Pattern Parted parts_step (open_pattern.Filter condition inner)
     ∙ ap (λ (p : Pattern). (pattern.Filter condition p, parts_of inner ++ pattern.Filter condition p ∷ [])) i
 
-parts_union : (left right : Pattern) → (with_parts left).0 ≡ left → (with_parts right).0 ≡ right → with_parts (pattern.Union left right) ≡ (pattern.Union left right, parts_of left ++ (parts_of right ++ pattern.Union left right ∷ []))
+pub parts_union : (left right : Pattern) → (with_parts left).0 ≡ left → (with_parts right).0 ≡ right → with_parts (pattern.Union left right) ≡ (pattern.Union left right, parts_of left ++ (parts_of right ++ pattern.Union left right ∷ []))
 parts_union left right l r =
     ap with_parts (sym (rolls-Union left right)) ∙ fold-roll-Pattern Parted parts_step (open_pattern.Union left right)
     ∙ ap (λ (p : Pattern). (pattern.Union p (with_parts right).0, parts_of left ++ (parts_of right ++ pattern.Union p (with_parts right).0 ∷ []))) l
@@ -99,7 +99,7 @@ shaped_pair left right whole l r size is = record {
       omega (arith, both, first, second, size);
 }
 
-shaped : {p : Pattern} {before parent : ℕ} {sibling : Option Pattern} {nodes : List Node} → AreNodes p before parent sibling nodes → Shaped p
+pub shaped : {p : Pattern} {before parent : ℕ} {sibling : Option Pattern} {nodes : List Node} → AreNodes p before parent sibling nodes → Shaped p
 shaped (triple of order) = record {
   whole = ap (λ (f : Parted). f.0) (parts_triple of);
   front = [];

@@ -17,10 +17,10 @@ pub no_names : AreNames [] []
 unfolding IsStrictlySortedBy
 no_names = record { ascend = tt; each = λ name. (λ there. there, λ there. there) }
 
-found_there : (names : List (List ℕ)) (name : List ℕ) → has_name names name ≡ true → Contains names name
+pub found_there : (names : List (List ℕ)) (name : List ℕ) → has_name names name ≡ true → Contains names name
 found_there names name e = Contains-from_any same_bytes_are name names e
 
-there_found : (names : List (List ℕ)) (name : List ℕ) → Contains names name → has_name names name ≡ true
+pub there_found : (names : List (List ℕ)) (name : List ℕ) → Contains names name → has_name names name ≡ true
 there_found names name there = list_any-from_Contains nat_list_eq_equiv name names there
 
 is_not : (has : Bool) → (has ≡ true → ⊥) → has ≡ false

@@ -5,3 +5,4 @@ pub mod Read
 pub mod Reading
 pub mod Laws
 pub mod Meaning
+pub mod Rows

@@ -15,8 +15,9 @@ mod storing_expr;
 mod tree;
 
 pub use building::build;
-pub use laws::{nodes_mean_their_parts, one_stored_form, trees_can_be_stored};
+pub use laws::{nodes_mean_their_parts, one_stored_form, rows_are_solutions, trees_can_be_stored};
 pub use node::{Node, NodeKind};
 pub use reading::read_tree;
+pub use sizes::can_build;
 pub use storing::store_tree;
 pub use tree::Tree;
