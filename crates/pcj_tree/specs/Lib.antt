@@ -6,3 +6,4 @@ pub mod Reading
 pub mod Laws
 pub mod Meaning
 pub mod Rows
+pub mod Groups
