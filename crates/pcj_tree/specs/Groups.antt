@@ -1,7 +1,7 @@
 -- The value of a group's row: what an aggregate comes to over solutions of the group. Numbers have their highest byte first.
-use Rattle.std.specs.Prelude.{◌≡◌, ◌⊎◌, ◌-◌, ◌^◌, ℕ, suc, ℤ, pos, negsuc, Bool, true, false, List, [], ◌∷◌, ◌++◌, length, map, Some, None}
+use Rattle.std.specs.Prelude.{◌≡◌, ◌⊎◌, ◌-◌, ◌^◌, ℕ, suc, ℤ, pos, negsuc, Bool, true, false, List, [], ◌∷◌, ◌++◌, length, map, Some}
 use Rattle.std.specs.Int.{w64, bytes_high_first, to_be_bytes}
-use Rattle.std.specs.List.{Contains, filter_map, list_all}
+use Rattle.std.specs.List.{filter_map, list_all}
 use Rattle.std.specs.Option.{is_some}
 use Rattle.pcj_term.specs.declared.term.Term.{Term}
 use Rattle.pcj_expr.specs.declared.mapping.Mapping.{Mapping}
