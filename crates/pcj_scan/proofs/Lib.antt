@@ -1,6 +1,6 @@
-mod ReaderLemmas
+pub mod ReaderLemmas
 mod RecoveryLemmas
 mod RowLemmas
 mod MatchLemmas
-mod ScanLemmas
+pub mod ScanLemmas
 mod RangeLemmas

@@ -1,0 +1,10 @@
+pub mod CrashLemmas
+pub mod DrawLemmas
+pub mod LanguageLemmas
+pub mod LoadLemmas
+pub mod NameLemmas
+pub mod OnceLemmas
+pub mod ReadLemmas
+pub mod RegisterLemmas
+pub mod StatusLemmas
+pub mod StepLemmas
