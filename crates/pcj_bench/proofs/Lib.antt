@@ -1,1 +1,3 @@
-pub mod Documents
+mod Begins
+mod Distinct
+mod Documents

@@ -1,9 +1,11 @@
-ghost use Rattle.std.specs.Prelude.{None, OnOk};
-ghost use Rattle.pcj_load.specs.Transaction.{IsAtRest};
+ghost use Rattle.std.specs.Prelude.{None};
+ghost use Rattle.pcj_oracle.specs.Clock.{IsClock};
 
 use crate::engine::Engine;
 use crate::failure::Failure;
-use pcj_load::load_triples;
+use pcj_client::LoadJob;
+use pcj_clients::{Clients, StepsEnd};
+use pcj_encode::{KeyName, TaskName, write_key};
 use pcj_memtable::MemTable;
 use pcj_ntriples::read_document;
 use pcj_oracle::{Oracle, OracleError};
@@ -18,14 +20,24 @@ use std::time::{Clock, Duration, Instant};
 /// How many triples a document has.
 const DOCUMENT: u32 = 1_000;
 
+/// How many steps of a load are asked for: more than it takes.
+const STEPS: u64 = 1_000_000;
+
 /// How long it took to load triples into a table, and to put their rows there in the same order without a load.
 #[derive(Clone, Copy)]
 pub struct LoadTimes {
     engine: Engine,
     triples: u32,
-    calls: u64,
-    loads: Duration,
+    work: Work,
     insertions: Duration,
+}
+
+/// How long loads took, in how many steps, and how many calls of the table.
+#[derive(Clone, Copy)]
+struct Work {
+    time: Duration,
+    steps: u64,
+    calls: u64,
 }
 
 impl From<OracleError> for Failure {
@@ -40,18 +52,26 @@ impl From<OracleError> for Failure {
 impl fmt::Display for LoadTimes {
     fn fmt<W: fmt::Write>(&self, f: &mut fmt::Formatter<W>) -> fmt::Result {
         let triples = u128::from(self.triples);
-        let time = self.loads.as_micros();
+        let time = self.work.time.as_micros();
         let rate = quotient(triples.saturating_mul(1_000_000), time);
-        let calls = quotient(u128::from(self.calls).saturating_mul(1_000), triples);
+        let steps = thousandths(self.work.steps, triples);
+        let calls = thousandths(self.work.calls, triples);
         let share = quotient(self.insertions.as_micros().saturating_mul(100), time);
         write!(
             f,
-            "{}, {triples} triples: {rate} triples/s, {}.{:03} table calls a triple, insertions alone {share} % of the time",
+            "{}, {triples} triples: {rate} triples/s, {}.{:03} steps and {}.{:03} table calls a triple, insertions alone {share} % of the time",
             self.engine,
+            steps / 1_000,
+            steps % 1_000,
             calls / 1_000,
             calls % 1_000
         )
     }
+}
+
+/// How many thousandths of one there are to each triple.
+fn thousandths(count: u64, triples: u128) -> u128 {
+    quotient(u128::from(count).saturating_mul(1_000), triples)
 }
 
 /// A quotient, or 0 where the divisor is 0.
@@ -68,23 +88,21 @@ pub fn measure_loads(
     triples: u32,
 ) -> Result<LoadTimes, Failure> {
     let documents = documents(alloc, triples)?;
-    let (loads, calls) = time_loads(clock, alloc, engine, &documents)?;
     Ok(LoadTimes {
         engine,
         triples,
-        calls,
-        loads,
+        work: time_loads(clock, alloc, engine, &documents)?,
         insertions: time_insertions(clock, alloc, engine, &documents)?,
     })
 }
 
-/// How long it takes to load the documents into a new table, and how many of its calls.
+/// What it takes to load the documents into a new table.
 fn time_loads(
     clock: &impl Clock,
     alloc: Global,
     engine: Engine,
     documents: &[String],
-) -> Result<(Duration, u64), Failure> {
+) -> Result<Work, Failure> {
     let none = Items::new(alloc);
     match engine {
         Engine::Vector => load_into(clock, alloc, &mut MemTable::new(alloc, none), documents),
@@ -92,18 +110,22 @@ fn time_loads(
     }
 }
 
-/// How long it takes to load the documents into a table, and how many of its calls it has had then.
+/// What it takes to load the documents into a table that had no call yet.
 fn load_into<T: RowTable>(
     clock: &impl Clock,
     alloc: Global,
     table: &mut T,
     documents: &[String],
-) -> Result<(Duration, u64), Failure>
-    requires { IsAtRest None (T.rows table.old) }
+) -> Result<Work, Failure>
+    requires { IsClock None (T.rows table.old) }
 {
     let begun = Instant::now(clock)?;
-    load_documents(alloc, table, documents)?;
-    Ok((begun.elapsed(clock)?, table.calls()))
+    let steps = load_documents(alloc, table, documents)?;
+    Ok(Work {
+        time: begun.elapsed(clock)?,
+        steps,
+        calls: table.calls(),
+    })
 }
 
 /// How long it takes to put the rows of the documents' triples into a new table, in the same order.
@@ -133,40 +155,58 @@ fn put_into<T: RowTable>(
     Ok(begun.elapsed(clock)?)
 }
 
-/// Loads the documents one after another.
+/// Loads the documents one after another. How many steps that took.
 fn load_documents<T: RowTable>(
     alloc: Global,
     table: &mut T,
     documents: &[String],
-) -> Result<(), Failure>
-    requires { IsAtRest None (T.rows table.old) }
+) -> Result<u64, Failure>
+    requires { IsClock None (T.rows table.old) }
 {
     let mut oracle = Oracle::new(alloc);
+    let mut steps: u64 = 0;
     for document in documents {
-        load_document(alloc, &mut oracle, table, document.as_bytes())?;
+        let made = load_document(alloc, table, &mut oracle, document.as_bytes())?;
+        steps = steps.saturating_add(made);
     }
-    Ok(())
+    Ok(steps)
 }
 
-/// Loads a document under the next number.
+/// Loads a document under the next number. How many steps that took.
 fn load_document<T: RowTable>(
     alloc: Global,
-    oracle: &mut Oracle,
     table: &mut T,
+    oracle: &mut Oracle,
     text: &[u8],
-) -> Result<(), Failure>
-    requires { IsAtRest oracle.old (T.rows table.old) }
-    ensures { OnOk result (IsAtRest oracle.new (T.rows table.new)) }
+) -> Result<u64, Failure>
+    requires { IsClock oracle.old (T.rows table.old) }
+    ensures { IsClock oracle.new (T.rows table.new) }
 {
-    let start = oracle.draw(table)?;
-    let triples = read_document(alloc, text, start)?;
-    match load_triples(alloc, oracle, table, triples.as_slice(), start)? {
-        Some(_commit) => Ok(()),
-        None => Err(Failure::System),
+    let load = oracle.draw(table)?;
+    let triples = read_document(alloc, text, load)?;
+    make_steps(alloc, table, oracle, LoadJob::new(alloc, load, triples))
+}
+
+/// Makes a client's steps until its load is done. How many that were.
+fn make_steps<T: RowTable>(
+    alloc: Global,
+    table: &mut T,
+    oracle: &mut Oracle,
+    job: LoadJob,
+) -> Result<u64, Failure>
+    requires { IsClock oracle.old (T.rows table.old) }
+    ensures { IsClock oracle.new (T.rows table.new) }
+{
+    let mut clients = Clients::new(alloc);
+    clients.open(1, job)?;
+    let stepped = clients.steps(1, STEPS, table, oracle)?;
+    match stepped.end {
+        StepsEnd::Done => Ok(stepped.count),
+        _ => Err(Failure::System),
     }
 }
 
-/// The keys of the rows of the documents' triples, in the order in which they are loaded.
+/// The keys of the rows of the documents' triples and of their tasks, in the order in which they are written.
 fn keys_of(alloc: Global, documents: &[String]) -> Result<Vec<Bytes>, Failure> {
     let mut keys = Vec::new(alloc);
     for document in documents {
@@ -175,16 +215,20 @@ fn keys_of(alloc: Global, documents: &[String]) -> Result<Vec<Bytes>, Failure> {
     Ok(keys)
 }
 
-/// Adds the keys of the rows of a document's triples.
+/// Adds the keys of a document.
 fn add_keys(alloc: Global, keys: &mut Vec<Bytes>, text: &[u8]) -> Result<(), Failure> {
     let triples = read_document(alloc, text, 1)?;
-    append_each(alloc, keys, triples.as_slice())
+    for triple in triples.into_vec() {
+        add_rows(alloc, keys, triple)?;
+    }
+    Ok(())
 }
 
-fn append_each(alloc: Global, keys: &mut Vec<Bytes>, triples: &[Triple]) -> Result<(), Failure> {
-    for triple in triples {
-        append(keys, triple_rows(alloc, triple)?)?;
-    }
+/// Adds the keys of a triple's rows and of its task.
+fn add_rows(alloc: Global, keys: &mut Vec<Bytes>, triple: Triple) -> Result<(), Failure> {
+    append(keys, triple_rows(alloc, &triple)?)?;
+    let task = KeyName::Task(TaskName::Triple(triple));
+    keys.push(write_key(alloc, &task)?)?;
     Ok(())
 }
 

@@ -1,1 +1,1 @@
-mod Starts
+mod EmptyTable

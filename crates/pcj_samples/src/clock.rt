@@ -1,7 +1,7 @@
 //! Tables whose clock is set before the first number is granted.
 
 ghost use Rattle.std.specs.Prelude.{◌≤◌, ◌^◌, OnOk};
-ghost use Rattle.pcj_replay.specs.Session.{IsFresh};
+ghost use Rattle.pcj_samples.specs.Fresh.{IsFresh};
 
 use pcj_encode::{KeyName, write_key};
 use pcj_table::{Mutated, Plain, RowTable, TableError, Update};

@@ -1,5 +1,5 @@
 //! Cases that neither a script nor a single call shows: faults in mid-stream and what they leave, walks and mutations of
-//! a table, oracles and loads that are cut short. README.md says how one is added.
+//! a table, oracles after crashes. README.md says how one is added.
 //!
 //! What speaks of a table is generic over `RowTable`: `mem_table` runs it over a vector in memory, and `page_table` over
 //! pages. Another table gets one more such file.
@@ -16,9 +16,7 @@ mod copies;
 #[cfg(test)]
 mod failing;
 #[cfg(test)]
-mod loads;
-#[cfg(test)]
-mod mem_scripts;
+mod mem_oracles;
 #[cfg(test)]
 mod mem_table;
 #[cfg(test)]
@@ -28,21 +26,13 @@ mod notifications;
 #[cfg(test)]
 mod oracles;
 #[cfg(test)]
-mod page_scripts;
-#[cfg(test)]
 mod page_table;
 #[cfg(test)]
 mod pages;
 #[cfg(test)]
 mod rows;
 #[cfg(test)]
-mod scripts;
-#[cfg(test)]
-mod standing;
-#[cfg(test)]
 mod streams;
-#[cfg(test)]
-mod texts;
 #[cfg(test)]
 mod told;
 #[cfg(test)]

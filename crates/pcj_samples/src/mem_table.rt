@@ -2,7 +2,7 @@
 
 ghost use Rattle.std.specs.Prelude.{IfOk};
 ghost use Rattle.pcj_sorted.specs.Entries.{table_of};
-ghost use Rattle.pcj_replay.specs.Session.{IsFresh};
+ghost use Rattle.pcj_samples.specs.Fresh.{IsFresh};
 
 use crate::failing::fail_on_one;
 use crate::told::{Told, get};

@@ -1,7 +1,7 @@
 //! Oracles over one table: what they grant after crashes, after failed calls and at the last number.
 
 ghost use Rattle.pcj_oracle.specs.Clock.{IsClock};
-ghost use Rattle.pcj_replay.specs.Session.{IsFresh};
+ghost use Rattle.pcj_samples.specs.Fresh.{IsFresh};
 
 use crate::told::counts;
 use pcj_oracle::{Oracle, OracleError};

@@ -1,5 +1,5 @@
-use Rattle.pcj_load.specs.Transaction.{IsAtRest}
+use Rattle.pcj_oracle.specs.Clock.{IsClock}
 use Rattle.pcj_bench.proofs.loads.load_documents.Given as goal
 
 abbrev pub invariant-loop-document : goal.invariant-loop-document
-invariant-loop-document g l = IsAtRest l.oracle (g.T.RowTable.rows l.table)
+invariant-loop-document g l = IsClock l.oracle (g.T.RowTable.rows l.table)

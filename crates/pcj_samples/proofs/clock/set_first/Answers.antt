@@ -9,9 +9,9 @@ use Rattle.pcj_oracle.specs.Clock.{clock_key, clock_number, stored_number}
 use Rattle.pcj_mvcc.specs.Reading.{put}
 use Rattle.pcj_term.proofs.ByteLemmas.{other_bytes}
 use Rattle.pcj_mvcc.proofs.Rows.{put_same, put_other, with_row_puts}
-use Rattle.pcj_sound.specs.Fit.{IsClockRow}
-use Rattle.pcj_sound.specs.Laws.{HasClockAlone}
-use Rattle.pcj_replay.specs.Session.{IsFresh}
+use Rattle.pcj_fit.specs.Rows.{IsClockRow}
+use Rattle.pcj_fit.specs.Laws.{HasClockAlone}
+use Rattle.pcj_samples.specs.Fresh.{IsFresh}
 use Rattle.pcj_samples.proofs.clock.set_first.Goals as goal
 
 set_fresh : (old new : Table) (number : ℕ) → HasClockAlone (row_at old) → 1 ≤ number → number ≤ 2 ^ 48 →
