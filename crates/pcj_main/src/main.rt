@@ -17,11 +17,11 @@
 //! |---|---|
 //! | 0 | the end of the script |
 //! | 2 | a line of the script that was refused, or words that are no command |
-//! | 3 | standard input, which failed |
+//! | 3 | standard input, which failed: what of the script stood whole in what was read was carried out |
 //! | 4 | standard output, which failed |
 //! | 5 | memory, which ran out |
 //! | 6 | the timestamps, of which none is left |
-//! | 7 | the table, which failed: one in memory doesn't |
+//! | 7 | the table, which couldn't be looked at before the first command: one in memory can |
 //!
 //! This crate adds two cases, both before the script is read. Where memory runs out while the words
 //! are collected, the status is 5 and nothing is written. A word that isn't UTF-8 is a word of no
@@ -70,11 +70,11 @@ fn complaint(status: u8, is_command: bool) -> Option<&'static str> {
         2 if !is_command => Some(
             "these words are no command; the usage line names those there are",
         ),
-        3 => Some("standard input failed: nothing was carried out"),
+        3 => Some("standard input failed: the commands before that were carried out"),
         4 => Some("standard output failed: the transcript is cut off"),
         OUT_OF_MEMORY => Some("memory ran out: the transcript may be cut off"),
         6 => Some("no timestamp is left: the script was carried out up to the line `spent`"),
-        7 => Some("the table failed: the transcript ends before the command that met the fault"),
+        7 => Some("the table failed before the first command: nothing was carried out"),
         _ => None,
     }
 }

@@ -1,11 +1,35 @@
--- A table without keys may be handed to the top call.
-use Rattle.std.proofs.Common.{◌≡◌, arith}
-use Rattle.std.specs.FinMap.{empty}
-use Rattle.pcj_load.proofs.EmptyTable.{nothing_alone, nothing_stored}
-use Rattle.pcj_oracle.specs.Clock.{stored_number}
-use Rattle.pcj_replay.specs.Session.{IsFresh}
+-- A run may begin with a table without rows.
+use Rattle.std.proofs.Common.{◌≡◌, ◌≤◌, ◌^◌, ℕ, [], Option, refl, ap, sym, subst, arith}
+use Rattle.std.specs.Option.{unwrap_or}
+use Rattle.std.specs.FinMap.{empty, get-empty}
+use Rattle.pcj_term.specs.Order.{bytes_cmp}
+use Rattle.pcj_table.specs.declared.row.Row.{Row}
+use Rattle.pcj_table.specs.Row.{no_row}
+use Rattle.pcj_table.specs.Table.{Key, row_at}
+use Rattle.pcj_oracle.specs.Clock.{clock_key, clock_number, stored_number}
+use Rattle.pcj_fit.specs.Laws.{HasClockAlone}
+use Rattle.pcj_fit.specs.Rows.{IsClockRow}
+use Rattle.pcj_fit.proofs.TripleLemmas.{clock_alone_is_fit}
+use Rattle.pcj_replay.specs.Entry.{IsOpen}
 
-pub nothing_fresh : IsFresh empty
-nothing_fresh =
-    let one : stored_number empty ≡ 1 = nothing_stored in
-    record { alone = nothing_alone; first = omega (arith, one); last = omega (arith, one) }
+nothing_at : (key : Key) → row_at empty key ≡ no_row
+nothing_at key = ap (λ (row : Option Row). unwrap_or row no_row) (get-empty bytes_cmp key)
+
+nothing_stored : stored_number empty ≡ 1
+nothing_stored = ap (λ (row : Row). clock_number row.plain) (nothing_at clock_key)
+
+nothing_alone : HasClockAlone (row_at empty)
+nothing_alone = record {
+  clock = subst IsClockRow (sym (nothing_at clock_key)) (record { lock = refl; versions = refl; value = tt });
+  others = λ key differs. nothing_at key;
+}
+
+pub nothing_is_open : IsOpen empty
+nothing_is_open = record {
+  clock = record {
+    first = subst (λ (n : ℕ). 1 ≤ n) (sym nothing_stored) (omega arith);
+    last = subst (λ (n : ℕ). n ≤ 2 ^ 48) (sym nothing_stored) (omega arith);
+    attached = tt;
+  };
+  fit = (clock_alone_is_fit (stored_number empty) (row_at empty) nothing_alone).0;
+}

@@ -1,7 +1,6 @@
-pub mod AnswerLaws
+pub mod AnswerLemmas
 pub mod EmptyTable
-pub mod InputLaws
-pub mod OutcomeLaws
-pub mod ReplyLaws
-pub mod RunLaws
-pub mod SessionLaws
+pub mod InputLemmas
+pub mod RunLemmas
+pub mod ScriptLemmas
+pub mod WordLemmas

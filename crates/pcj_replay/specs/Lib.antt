@@ -1,5 +1,6 @@
+pub mod Answer
+pub mod Entry
 pub mod Input
-pub mod Outcome
-pub mod Run
-pub mod Session
+pub mod Runs
 pub mod Stop
+pub mod Usage

@@ -1,64 +1,60 @@
-ghost use Rattle.std.specs.Prelude.{◌≡◌, ℕ, List, ◌++◌, map, OnOk, IfOk};
-ghost use Rattle.pcj_transcript.specs.Script.{readable_lines};
-ghost use Rattle.pcj_replay.specs.Stop.{HasSourceCause};
+ghost use Rattle.std.specs.Prelude.{◌≡◌, ◌++◌, IfOk, OnOk};
+ghost use Rattle.pcj_replay.specs.Input.{IsReadFrom, TellsSourceFault};
 
-use crate::stop::Stop;
 use pcj_io::Source;
 use pcj_term::Memory;
-use pcj_transcript::split_at_byte;
 use std::alloc::Global;
 
 /// The most bytes that a script may have: 64 MiB.
-pub(crate) const SCRIPT_LIMIT: usize = 67_108_864;
+const SCRIPT_LIMIT: usize = 67_108_864;
 
 /// How many bytes are asked for at a time.
 const PIECE: usize = 16_384;
 
-/// The bytes of a script up to the limit, and whether there are more.
+/// Where what was read of a script stops.
+#[derive(Clone, Copy, PartialEq, Eq)]
+pub(crate) enum InputEnd {
+    /// At its end.
+    AtEnd,
+    /// At the limit: there is a byte past it.
+    AtLimit,
+    /// Somewhere else, since a read failed.
+    AtFault,
+}
+
+/// The bytes that were read of a script, up to the limit.
 #[derive(Drop)]
 pub(crate) struct Input {
     pub(crate) bytes: Vec<u8>,
-    pub(crate) too_long: bool,
+    pub(crate) end: InputEnd,
 }
 
 impl Input {
-    ghost use Rattle.pcj_replay.specs.Input.{IsRead, Holds};
-
-    /// Reads a source to its end, or to a byte past the limit.
-    pub(crate) fn read<S: Source>(alloc: Global, source: &mut S) -> Result<Input, Stop>
-        ensures read { IfOk result (IsRead (S.left source.old)) }
-        ensures cause { HasSourceCause (S.faults source.old) (S.faults source.new) result }
+    /// Reads a source to its end, to a byte past the limit, or to a fault.
+    pub(crate) fn read<S: Source>(alloc: Global, source: &mut S) -> Result<Input, Memory>
+        ensures read { IfOk result (IsReadFrom (S.left source.old)) }
+        ensures fault { IfOk result (TellsSourceFault (S.faults source.old) (S.faults source.new)) }
     {
         let mut bytes = Vec::new(alloc);
         let mut piece = [0u8; PIECE];
         while bytes.len() <= SCRIPT_LIMIT {
-            let count = source.read(&mut piece)?;
+            let Ok(count) = source.read(&mut piece) else {
+                return Ok(Input::ending(bytes, InputEnd::AtFault));
+            };
             if count == 0 {
-                return Ok(Input {
-                    bytes,
-                    too_long: false,
-                });
+                return Ok(Input::ending(bytes, InputEnd::AtEnd));
             }
             append(&mut bytes, &piece[..count])?;
         }
         bytes.truncate(SCRIPT_LIMIT);
-        Ok(Input {
-            bytes,
-            too_long: true,
-        })
+        Ok(Input::ending(bytes, InputEnd::AtLimit))
     }
 
-    /// The lines that may be carried out: those before the line of the first byte past the limit.
-    pub(crate) fn lines(&self, alloc: Global) -> Result<Vec<&[u8]>, Memory>
-        ensures { IfOk result (λ lines. (script : List ℕ) → Holds script self.now →
-            map (λ line. line.now) lines.items ≡ readable_lines script) }
+    fn ending(bytes: Vec<u8>, end: InputEnd) -> Input
+        ensures bytes { result.bytes.items ≡ bytes.items }
+        ensures end { result.end ≡ end }
     {
-        let mut lines = split_at_byte(alloc, &self.bytes, b'\n')?;
-        if !self.too_long {
-            return Ok(lines);
-        }
-        lines.pop();
-        Ok(lines)
+        Input { bytes, end }
     }
 }
 

@@ -1,15 +1,13 @@
-//! The top call: a script of loads, registrations and questions, carried out over a table into its transcript.
+//! The top call: a script carried out over a table, command by command, into its transcript.
 //!
-//! A load is a transaction over the table, and a question is answered from the table's rows. What is written is the
-//! one transcript of the script's commands, and the triples that the table has then are those of its end.
+//! `replay` reads a script, carries out its commands by a `Session`, and writes what each comes to before the next one begins.
+//! What it may write is a run of the script's commands (`Run` of `pcj_model`), for every language that is SPARQL's, and how a
+//! run may end is one relation (`Ends`).
 #![tactic(auto)]
 
+mod answer;
 mod input;
-mod outcome;
-mod reply;
-mod response;
 mod run;
-mod session;
 mod stop;
 mod top;
 

@@ -1,30 +1,24 @@
 ghost use Rattle.std.specs.Prelude.{◌≡◌};
-ghost use Rattle.pcj_replay.specs.declared.stop.Stop.TheVariants.{SourceFault, Memory};
+ghost use Rattle.pcj_replay.specs.declared.stop.Stop.TheVariants.{Memory};
 
-use pcj_io::{Failed, SinkError};
-use pcj_table::TableError;
+use pcj_io::SinkError;
+use pcj_session::Stop as SessionStop;
 
-/// Why a run ends before its script does.
+/// Why a run ends before what was read of its script does.
 #[derive(Clone, Copy, PartialEq, Eq)]
 pub(crate) enum Stop {
-    SourceFault,
+    /// What was said couldn't be written.
     SinkFault,
-    TableFault,
+    /// There was no memory.
     Memory,
-}
-
-impl From<Failed> for Stop {
-    ghost from_gives = { λ _ stop. stop ≡ SourceFault };
-
-    fn from(_: Failed) -> Stop {
-        Stop::SourceFault
-    }
+    /// For a command 2^48 would be drawn.
+    Spent,
 }
 
 impl From<SinkError> for Stop {
-    ghost use Rattle.pcj_replay.specs.Stop.{stop_of};
+    ghost use Rattle.pcj_replay.specs.Stop.{sink_stop};
 
-    ghost from_gives = { λ error stop. stop ≡ stop_of error };
+    ghost from_gives = { λ error stop. stop ≡ sink_stop error };
 
     fn from(error: SinkError) -> Stop {
         match error {
@@ -34,15 +28,15 @@ impl From<SinkError> for Stop {
     }
 }
 
-impl From<TableError> for Stop {
-    ghost use Rattle.pcj_replay.specs.Stop.{table_stop};
+impl From<SessionStop> for Stop {
+    ghost use Rattle.pcj_replay.specs.Stop.{session_stop};
 
-    ghost from_gives = { λ error stop. stop ≡ table_stop error };
+    ghost from_gives = { λ stopped stop. stop ≡ session_stop stopped };
 
-    fn from(error: TableError) -> Stop {
-        match error {
-            TableError::Failed => Stop::TableFault,
-            TableError::Memory => Stop::Memory,
+    fn from(stopped: SessionStop) -> Stop {
+        match stopped {
+            SessionStop::Memory => Stop::Memory,
+            SessionStop::Spent => Stop::Spent,
         }
     }
 }

@@ -1,37 +1,35 @@
-use Rattle.std.proofs.Common.{◌≡◌, ◌<◌, length, arith}
-use Rattle.std.proofs.lemmas.List.{take_all}
-use Rattle.pcj_oracle.specs.Clock.{stored_number}
-use Rattle.pcj_replay.specs.declared.stop.Stop.{Stop}
-use Rattle.pcj_replay.specs.Run.{RunStops}
-use Rattle.pcj_replay.proofs.AnswerLaws.{IfErr-from}
-use Rattle.pcj_replay.proofs.RunLaws.{run_more, run_all, run_spent, run_stops}
+use Rattle.std.proofs.Common.{subst}
+use Rattle.pcj_replay.specs.Runs.{StopsIn}
+use Rattle.pcj_replay.proofs.RunLemmas.{run_done, run_short, run_spent, run_stopped, sink_only, source_only, spent_source, spent_table, table_never}
 use Rattle.pcj_replay.proofs.run.run.Goals as goal
 
-pub returns-in_err-answer-clause-cut : goal.returns-in_err-answer-clause-cut
-returns-in_err-answer-clause-cut g c =
-    let within : c.loop-command.command-index < length c.args.commands.now = omega arith in
-    let so_far = c.loop-command.invariant in
-    let stops = (c.in_err-answer.ensures {u = tt}).cut so_far.state so_far.stands in
-    IfErr-from (RunStops (stored_number (g.T.RowTable.rows c.args.table.now)) c.args.commands.now (g.K.Sink.taken c.args.sink.now) (g.K.Sink.taken c.answer.new.sink) (g.T.RowTable.rows c.answer.new.table))
-    (λ (stop : Stop). stop ≡ c.in_err-answer.field-0.0) c.from_residual.result c.from_residual.ensures.1
-    (λ stop is. rw is (run_stops c.args.commands.now c.loop-command.command-index c.command-item.result _ _ _ _ _ _ _ _ _ _ _ _ c.in_err-answer.field-0.0 within c.command-item.is so_far stops))
+pub returns-in-Ok-clause-ends : goal.returns-in-Ok-clause-ends
+returns-in-Ok-clause-ends g c = λ language start commands script sparql begins spells.
+    run_done language start commands script (g.K.Sink.taken c.args.sink.now) (g.K.Sink.taken c.carry_out.new.sink) (g.K.Sink.taken c.finish.new.sink) (g.T.RowTable.rows c.carry_out.new.table) c.in-Ok.ending c.finish.result ((c.in-Ok.ensures {u = tt}).done language start commands script sparql begins spells) c.finish.ensures.finishes
 
-pub returns-in-Spent-clause-done : goal.returns-in-Spent-clause-done
-returns-in-Spent-clause-done g c =
-    let within : c.loop-command.command-index < length c.args.commands.now = omega arith in
-    let so_far = c.loop-command.invariant in
-    let writes = rw c.in-Spent.is at ((c.in_ok-answer.ensures {u = tt}).done so_far.state so_far.stands) in
-    run_spent c.args.commands.now c.loop-command.command-index c.command-item.result _ _ _ _ _ _ _ _ _ _ _ within c.command-item.is so_far writes
+pub returns-in-Ok-clause-cause : goal.returns-in-Ok-clause-cause
+returns-in-Ok-clause-cause g c = sink_only c.args.input.now.end c.in-Ok.ending c.finish.result _ _ _ (c.in-Ok.ensures {u = tt}).kind c.carry_out.ensures.cause.later c.finish.ensures.cause
 
-pub loop-command-preserved : goal.loop-command-preserved
-loop-command-preserved g c =
-    let within : c.loop-command.command-index < length c.args.commands.now = omega arith in
-    let so_far = c.loop-command.invariant in
-    let answered = c.in_ok-answer.ensures {u = tt} in
-    let writes = rw c.in-All.is at (answered.done so_far.state so_far.stands) in
-    run_more c.args.commands.now c.loop-command.command-index c.command-item.result _ _ _ _ _ _ _ _ _ _ _ _ _ _ within c.command-item.is so_far writes answered.cause.later answered.cause.more
+pub returns-in-Ok-clause-source : goal.returns-in-Ok-clause-source
+returns-in-Ok-clause-source g c = source_only c.args.input.now.end c.in-Ok.ending c.finish.result _ _ (c.in-Ok.ensures {u = tt}).kind c.finish.ensures.finishes
 
-pub returns-clause-done : goal.returns-clause-done
-returns-clause-done g c =
-    let all = take_all c.loop-command.command-index c.args.commands.now (omega (arith, c.loop-command-test.false)) in
-    run_all c.args.commands.now c.loop-command.command-index _ _ _ _ _ _ _ _ _ all c.loop-command.invariant
+pub returns-in-Ok-clause-table : goal.returns-in-Ok-clause-table
+returns-in-Ok-clause-table g c = table_never c.args.input.now.end c.in-Ok.ending c.finish.result _ _ (c.in-Ok.ensures {u = tt}).kind c.finish.ensures.finishes
+
+pub returns-in-Err-Spent-clause-ends : goal.returns-in-Err-Spent-clause-ends
+returns-in-Err-Spent-clause-ends g c = λ language start commands script sparql begins spells.
+    run_spent language start commands script (g.K.Sink.taken c.args.sink.now) (g.K.Sink.taken c.carry_out.new.sink) (g.K.Sink.taken c.close.new.sink) (g.T.RowTable.rows c.carry_out.new.table) c.close.result (subst (StopsIn language start commands (g.K.Sink.taken c.args.sink.now) (g.K.Sink.taken c.carry_out.new.sink) (g.T.RowTable.rows c.carry_out.new.table)) c.in-Err-Spent.field-0-is ((c.in-Err-Spent.ensures {u = tt}).cut language start commands script sparql begins spells)) c.close.ensures.closes
+
+pub returns-in-Err-Spent-clause-source : goal.returns-in-Err-Spent-clause-source
+returns-in-Err-Spent-clause-source g c = spent_source c.args.input.now.end c.close.result _ _ c.close.ensures.closes
+
+pub returns-in-Err-Spent-clause-table : goal.returns-in-Err-Spent-clause-table
+returns-in-Err-Spent-clause-table g c = spent_table c.close.result _ _ c.close.ensures.closes
+
+pub returns-in-Err-SinkFault-clause-ends : goal.returns-in-Err-SinkFault-clause-ends
+returns-in-Err-SinkFault-clause-ends g c = λ language start commands script sparql begins spells.
+    run_stopped language start commands script (g.K.Sink.taken c.args.sink.now) (g.K.Sink.taken c.carry_out.new.sink) (g.T.RowTable.rows c.carry_out.new.table) (subst (StopsIn language start commands (g.K.Sink.taken c.args.sink.now) (g.K.Sink.taken c.carry_out.new.sink) (g.T.RowTable.rows c.carry_out.new.table)) c.in-Err-SinkFault.field-0-is ((c.in-Err-SinkFault.ensures {u = tt}).cut language start commands script sparql begins spells))
+
+pub returns-in-Err-Memory-clause-ends : goal.returns-in-Err-Memory-clause-ends
+returns-in-Err-Memory-clause-ends g c = λ language start commands script sparql begins spells.
+    run_short language start commands script (g.K.Sink.taken c.args.sink.now) (g.K.Sink.taken c.carry_out.new.sink) (g.T.RowTable.rows c.carry_out.new.table) (subst (StopsIn language start commands (g.K.Sink.taken c.args.sink.now) (g.K.Sink.taken c.carry_out.new.sink) (g.T.RowTable.rows c.carry_out.new.table)) c.in-Err-Memory.field-0-is ((c.in-Err-Memory.ensures {u = tt}).cut language start commands script sparql begins spells))

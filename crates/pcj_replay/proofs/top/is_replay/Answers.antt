@@ -1,6 +1,6 @@
 use Rattle.std.proofs.Common.{◌≡◌, ap, sym, ◌∙◌, ◌∷◌, [], List, ℕ, arith, length}
 use Rattle.std.specs.Prelude.{string_bytes}
-use Rattle.pcj_replay.proofs.OutcomeLaws.{one_word, is_the_word}
+use Rattle.pcj_replay.proofs.WordLemmas.{one_word, is_the_word}
 use Rattle.pcj_replay.proofs.top.is_replay.Goals as goal
 
 pub returns-in-len1 : goal.returns-in-len1

@@ -1,6 +1,6 @@
 use Rattle.std.proofs.Common.{◌+◌, ◌-◌, vec_len}
 use Rattle.pcj_replay.specs.declared.input.TheConstants.{SCRIPT_LIMIT}
-use Rattle.pcj_replay.proofs.InputLaws.{HasGiven}
+use Rattle.pcj_replay.proofs.InputLemmas.{HasGiven}
 use Rattle.pcj_replay.proofs.input.Input.read.Given as goal
 
 abbrev pub invariant-loop-piece : goal.invariant-loop-piece

@@ -1,4 +1,0 @@
-pub mod EmptyTable
-pub mod LoadingLaws
-pub mod TransactionLaws
-pub mod WalkLaws

@@ -1,0 +1,22 @@
+use Rattle.pcj_replay.proofs.RunLemmas.{replays_input, stops_at_entry}
+use Rattle.pcj_replay.proofs.top.replay_script.Goals as goal
+
+pub returns-in-Err-Failed-clause-replays : goal.returns-in-Err-Failed-clause-replays
+returns-in-Err-Failed-clause-replays g c = λ language triples sparql has. (stops_at_entry (g.S.Source.left c.args.source.now) (g.K.Sink.taken c.args.sink.now) (g.T.RowTable.rows c.args.table.now) (g.T.RowTable.rows c.pending.new.table) language triples c.requires c.pending.ensures.same has).0
+
+pub returns-in-Err-Memory-clause-replays : goal.returns-in-Err-Memory-clause-replays
+returns-in-Err-Memory-clause-replays g c = λ language triples sparql has. (stops_at_entry (g.S.Source.left c.args.source.now) (g.K.Sink.taken c.args.sink.now) (g.T.RowTable.rows c.args.table.now) (g.T.RowTable.rows c.pending.new.table) language triples c.requires c.pending.ensures.same has).1
+
+pub returns-in-Ok-read-clause-replays : goal.returns-in-Ok-read-clause-replays
+returns-in-Ok-read-clause-replays g c = λ language triples sparql has.
+    replays_input (g.S.Source.left c.args.source.now) (g.K.Sink.taken c.args.sink.now) (g.K.Sink.taken c.run.new.sink) (g.T.RowTable.rows c.args.table.now) (g.T.RowTable.rows c.pending.new.table) (g.T.RowTable.rows c.run.new.table) language triples c.in-Ok-read.input c.run.result (c.in-Ok-read.ensures {u = tt}).read
+    c.pending.ensures.same has (λ start commands script begins spells. c.run.ensures.ends language start commands script sparql begins spells)
+
+pub returns-in-Ok-read-clause-source_fault : goal.returns-in-Ok-read-clause-source_fault
+returns-in-Ok-read-clause-source_fault g c = λ is. (c.in-Ok-read.ensures {u = tt}).fault (c.run.ensures.source is)
+
+pub returns-in-Ok-read-clause-table_fault : goal.returns-in-Ok-read-clause-table_fault
+returns-in-Ok-read-clause-table_fault g c = λ is. absurd (c.run.ensures.table is)
+
+pub returns-in-Err-clause-replays : goal.returns-in-Err-clause-replays
+returns-in-Err-clause-replays g c = λ language triples sparql has. (stops_at_entry (g.S.Source.left c.args.source.now) (g.K.Sink.taken c.args.sink.now) (g.T.RowTable.rows c.args.table.now) (g.T.RowTable.rows c.pending.new.table) language triples c.requires c.pending.ensures.same has).1

@@ -1,8 +1,0 @@
-use Rattle.std.proofs.Common.{[]}
-use Rattle.pcj_transcript.specs.declared.command.Command.TheVariants as commands
-use Rattle.pcj_transcript.proofs.FrontLaws.{open_front}
-use Rattle.pcj_transcript.proofs.front.Front.register.Goals as goal
-
-pub returns-in_default : goal.returns-in_default
-returns-in_default c = λ first opens.
-    open_front first _ (commands.Register c.args.client c.args.name.now []) opens.0 opens.1 tt (rw c.in_default.is at (c.in_ok-text.ensures {u = tt}).none)

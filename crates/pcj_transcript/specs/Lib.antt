@@ -1,9 +1,0 @@
-pub mod Front
-pub mod Item
-pub mod Law
-pub mod Matching
-pub mod Name
-pub mod Opening
-pub mod Query
-pub mod Script
-pub mod Transcript
