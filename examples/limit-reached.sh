@@ -1,5 +1,5 @@
 #!/usr/bin/env bash
-# As many bytes as a script may have, in a text that has no end: its command is refused.
+# As many bytes as a script may have, in a text that has no end: the line on which the text passes its own limit is refused.
 set -eu
 
 limit=67108864

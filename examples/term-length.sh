@@ -3,9 +3,10 @@
 set -eu
 
 for bytes in 16384 16385; do
-    echo "load c1"
+    echo "load c$((bytes - 16383))"
     printf '<http://e.org/'
     head -c "$((bytes - 15))" /dev/zero | tr '\0' a
     echo '> <http://e.org/p> <http://e.org/b> .'
     echo "end"
 done
+echo "step c1 1000000"
