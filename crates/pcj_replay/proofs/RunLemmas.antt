@@ -8,7 +8,7 @@ use Rattle.pcj_io.proofs.Causes.{Rose-since}
 use Rattle.pcj_term.specs.declared.triple.Triple.{Triple}
 use Rattle.pcj_table.specs.Table.{Table, row_at}
 use Rattle.pcj_fit.specs.Triples.{HasTriples}
-use Rattle.pcj_oracle.specs.Clock.{IsClock}
+use Rattle.pcj_oracle.specs.Clock.{IsClock, stored_number}
 use Rattle.pcj_lines.specs.Lines.{ended}
 use Rattle.pcj_script.specs.declared.error.ScriptError.{ScriptError}
 use Rattle.pcj_script.specs.declared.error.ScriptKind.{ScriptKind}
@@ -32,7 +32,7 @@ use Rattle.pcj_model.specs.Reply.{Language, Reply}
 use Rattle.pcj_model.specs.Run.{Run, all_lines}
 use Rattle.pcj_model.specs.State.{State}
 use Rattle.pcj_model.proofs.RunLaws.{runs_go_on}
-use Rattle.pcj_session.specs.Language.{IsSparql}
+use Rattle.pcj_session.specs.Language.{IsSparql, IsThere}
 use Rattle.pcj_session.specs.Session.{Held, Holds, nothing_held}
 use Rattle.pcj_replay.specs.declared.input.InputEnd.{InputEnd}
 use Rattle.pcj_replay.specs.declared.input.InputEnd.TheVariants.{AtEnd, AtLimit, AtFault}
@@ -46,6 +46,7 @@ use Rattle.pcj_replay.specs.Runs.{Begins, Closes, EndsBehind, Finishes, IsEnding
 use Rattle.pcj_replay.proofs.AnswerLemmas.{holds_first, holds_left}
 use Rattle.pcj_replay.proofs.InputLemmas.{reads_as, whole_is, whole_of}
 use Rattle.pcj_replay.proofs.ScriptLemmas.{goes_on_with}
+use Rattle.pcj_session.proofs.TableTriples.{table_triples}
 
 -- ---- what is told
 
@@ -479,3 +480,11 @@ replays_input source old new table between table' language triples input result 
     let ran = runs (start_over triples table) commands script (subst (Begins (start_over triples table)) (sym same) (triples, has, refl))
     (subst (λ stop. Spells stop 1 (lines_up_to input.end input.bytes.items) commands script) what.stop (subst (λ lines. Spells (stop_at what.all what.script) 1 lines commands script) what.lines spells)) in
     replays_read source old new table table' language triples what.all what.script result ran.text ran.end what.front (record { commands = commands; script = script; read = spells; ends = ran.ends }) ran.written ran.left
+
+-- another run may follow it: the table had some triples, and there is a language
+pub ready_behind : (source old new : Option (List ℕ)) (table between table' : Table) (input : Input) (result : Ending) → IsReadFrom source input → between ≡ table → IsOpen table → IsThere →
+    ((language : Language) (start : State) (commands : List Command) (script : ScriptEnding) → IsSparql language → Begins start between → Spells (stop_of input.end) 1 (lines_up_to input.end input.bytes.items) commands script → Ran language start commands script old new table' result) →
+    IsOpen table'
+ready_behind source old new table between table' input result read same ready (language, sparql) runs =
+    let (triples, has) = table_triples (stored_number table) table ready.fit.decodes in
+    (replays_input source old new table between table' language triples input result read same has (λ start commands script begins spells. runs language start commands script sparql begins spells)).left.ready

@@ -1,6 +1,6 @@
-ghost use Rattle.std.specs.Prelude.{[], ◌∷◌, IfErr, OnOk, OnErr};
+ghost use Rattle.std.specs.Prelude.{◌≡◌, ◌^◌, [], ◌∷◌, IfErr, IsErrOf, OnOk, OnErr};
 ghost use Rattle.pcj_io.specs.Sink.{Appends, AppendsPrefix};
-ghost use Rattle.pcj_oracle.specs.Clock.{IsClock};
+ghost use Rattle.pcj_oracle.specs.Clock.{IsClock, stored_number};
 ghost use Rattle.pcj_script.specs.Commands.{command_of};
 ghost use Rattle.pcj_model.specs.Laws.{AsksSteps};
 ghost use Rattle.pcj_model.specs.Line.{line_of, printed};
@@ -8,6 +8,7 @@ ghost use Rattle.pcj_model.specs.Reply.{Language};
 ghost use Rattle.pcj_model.specs.State.{State};
 ghost use Rattle.pcj_session.specs.Language.{IsSparql};
 ghost use Rattle.pcj_session.specs.Session.{Holds};
+ghost use Rattle.pcj_replay.specs.declared.stop.Stop.TheVariants as stops;
 ghost use Rattle.pcj_replay.specs.Answer.{IsOfSink, StopsAnswer, WritesAnswer};
 ghost use Rattle.pcj_replay.specs.Stop.{HasSinkCause};
 
@@ -35,6 +36,7 @@ pub(crate) fn answer<K: Sink, T: RowTable>(
     ensures stopped { (language : Language) (state : State) → IsSparql language → Holds [] session.old (T.rows table.old) state →
         IfErr result (StopsAnswer language state (command_of command.entry) (T.rows table.new) (K.taken sink.old) (K.taken sink.new)) }
     ensures clock { IsClock session.new.oracle (T.rows table.new) }
+    ensures spent { IsErrOf result stops.Spent → stored_number (T.rows table.new) ≡ 2 ^ 48 }
     ensures cause { HasSinkCause (K.faults sink.old) (K.faults sink.new) result }
 {
     let reply = session.answer(alloc, table, command)?;

@@ -1,4 +1,5 @@
-ghost use Rattle.std.specs.Prelude.{◌≡◌, ◌⊎◌, ◌≤◌, ◌<◌, ◌+◌, ◌^◌, false, List, [], ◌∷◌, length, IfOk, IfErr};
+ghost use Rattle.std.specs.Prelude.{◌≡◌, ◌⊎◌, ◌≤◌, ◌<◌, ◌+◌, ◌^◌, false, List, [], ◌∷◌, length, IfOk, IfErr, IsErrOf};
+ghost use Rattle.pcj_oracle.specs.Clock.{stored_number};
 ghost use Rattle.pcj_script.specs.Commands.{Command};
 ghost use Rattle.pcj_script.specs.Script.{Ending as ScriptEnding, Spells};
 ghost use Rattle.pcj_model.specs.Line.{line_of, printed};
@@ -8,6 +9,7 @@ ghost use Rattle.pcj_script.specs.Lines.{lines_given};
 ghost use Rattle.pcj_model.specs.declared.ending.Ending.TheVariants as endings;
 ghost use Rattle.pcj_session.specs.Language.{IsSparql};
 ghost use Rattle.pcj_replay.specs.declared.input.InputEnd.TheVariants as input_ends;
+ghost use Rattle.pcj_replay.specs.declared.stop.Stop.TheVariants as stops;
 ghost use Rattle.pcj_replay.specs.Entry.{IsOpen};
 ghost use Rattle.pcj_replay.specs.Input.{is_ended, lines_up_to, stop_of};
 ghost use Rattle.pcj_replay.specs.Runs.{Begins, Closes, EndsBehind, Finishes, IsReadEnd, Ran, RunsTo, StopsIn, TellsSinkFault};
@@ -37,6 +39,7 @@ pub(crate) fn run<K: Sink, T: RowTable>(
         Spells (stop_of input.now.end) 1 (lines_up_to input.now.end input.now.bytes.items) commands script → Ran language start commands script (K.taken sink.old) (K.taken sink.new) (T.rows table.new) result }
     ensures cause { TellsSinkFault (K.faults sink.old) (K.faults sink.new) result }
     ensures source { result ≡ endings.SourceFault → input.now.end ≡ input_ends.AtFault }
+    ensures spent { result ≡ endings.Spent → stored_number (T.rows table.new) ≡ 2 ^ 48 }
     ensures table { result ≡ endings.TableFault → ⊥ }
 {
     match carry_out(alloc, input, sink, table) {
@@ -63,6 +66,7 @@ fn carry_out<K: Sink, T: RowTable>(
         Spells (stop_of input.now.end) 1 (lines_up_to input.now.end input.now.bytes.items) commands script →
         IfErr result (StopsIn language start commands (K.taken sink.old) (K.taken sink.new) (T.rows table.new)) }
     ensures cause { HasSinkCause (K.faults sink.old) (K.faults sink.new) result }
+    ensures spent { IsErrOf result stops.Spent → stored_number (T.rows table.new) ≡ 2 ^ 48 }
     ensures kind { IfOk result (IsReadEnd input.now.end) }
 {
     let mut session = Session::new(alloc);

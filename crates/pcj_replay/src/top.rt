@@ -1,8 +1,9 @@
-ghost use Rattle.std.specs.Prelude.{◌≡◌, ◌≤◌, ◌∷◌, ◌↔◌, [], List, map, IsTrue};
+ghost use Rattle.std.specs.Prelude.{◌≡◌, ◌≤◌, ◌^◌, ◌∷◌, ◌↔◌, [], List, map, IsTrue};
 ghost use Rattle.std.specs.String.{string_bytes};
 ghost use Rattle.pcj_term.specs.declared.triple.Triple.{Triple};
 ghost use Rattle.pcj_io.specs.Faults.{Rose};
 ghost use Rattle.pcj_table.specs.Table.{row_at};
+ghost use Rattle.pcj_oracle.specs.Clock.{stored_number};
 ghost use Rattle.pcj_fit.specs.Triples.{HasTriples};
 ghost use Rattle.pcj_model.specs.Ending.{status_of};
 ghost use Rattle.pcj_model.specs.Reply.{Language};
@@ -18,6 +19,7 @@ use pcj_io::{Sink, SinkError, Source, write_all};
 use pcj_lines::push_usage;
 use pcj_model::Ending;
 use pcj_pending::pending;
+use pcj_session::sparql_is_a_language;
 use pcj_table::{RowTable, TableError};
 use pcj_term::{Bytes, Memory};
 use std::alloc::Global;
@@ -41,10 +43,12 @@ pub fn replay<S: Source, K: Sink, T: RowTable>(
 ) -> u8
     requires { IsOpen (T.rows table.old) }
 
-    // The transcript of a run of the script's commands, as far as the status tells, and the triples that it leaves. Another call
-    // may follow, whatever the status.
+    // The transcript of a run of the script's commands, as far as the status tells, and the triples that it leaves.
     ensures replays { IsReplay (map string_bytes words.now) → (language : Language) (triples : List Triple) → IsSparql language → HasTriples (row_at (T.rows table.old)) triples →
         Replays (S.left source.old) (K.taken sink.old) (K.taken sink.new) (T.rows table.old) (T.rows table.new) language triples result }
+
+    // Another call may follow, whatever the words and the status.
+    ensures ready { IsOpen (T.rows table.new) }
 
     // The usage line, or a part of it.
     ensures usage { (IsReplay (map string_bytes words.now) → ⊥) → ShowsUsage (K.taken sink.old) (K.taken sink.new) result }
@@ -53,7 +57,9 @@ pub fn replay<S: Source, K: Sink, T: RowTable>(
     // The causes of the statuses.
     ensures source_fault { result ≡ 3 → Rose (S.faults source.old) (S.faults source.new) }
     ensures sink_fault { result ≡ 4 → Rose (K.faults sink.old) (K.faults sink.new) }
+    ensures spent { result ≡ 6 → stored_number (T.rows table.new) ≡ 2 ^ 48 }
     ensures table_fault { result ≡ 7 → Rose (T.failures table.old) (T.failures table.new) }
+    ensures table_fault_at_entry { result ≡ 7 → (source.new ≡ source.old) × (sink.new ≡ sink.old) × (T.rows table.new ≡ T.rows table.old) }
 {
     if is_replay(words) {
         replay_script(alloc, source, sink, table).status()
@@ -84,8 +90,12 @@ fn replay_script<S: Source, K: Sink, T: RowTable>(
         Replays (S.left source.old) (K.taken sink.old) (K.taken sink.new) (T.rows table.old) (T.rows table.new) language triples (status_of result) }
     ensures source_fault { result ≡ endings.SourceFault → Rose (S.faults source.old) (S.faults source.new) }
     ensures sink_fault { result ≡ endings.SinkFault → Rose (K.faults sink.old) (K.faults sink.new) }
+    ensures ready { IsOpen (T.rows table.new) }
+    ensures spent { result ≡ endings.Spent → stored_number (T.rows table.new) ≡ 2 ^ 48 }
     ensures table_fault { result ≡ endings.TableFault → Rose (T.failures table.old) (T.failures table.new) }
+    ensures table_fault_at_entry { result ≡ endings.TableFault → (source.new ≡ source.old) × (sink.new ≡ sink.old) × (T.rows table.new ≡ T.rows table.old) }
 {
+    sparql_is_a_language();
     match pending(alloc, table) {
         Ok(_) => {}
         Err(TableError::Failed) => return Ending::TableFault,
@@ -102,6 +112,7 @@ fn show_usage<K: Sink>(alloc: Global, sink: &mut K) -> u8
     ensures shows { ShowsUsage (K.taken sink.old) (K.taken sink.new) result }
     ensures fault { result ≡ 4 → Rose (K.faults sink.old) (K.faults sink.new) }
     ensures source { result ≡ 3 → ⊥ }
+    ensures spent { result ≡ 6 → ⊥ }
     ensures table { result ≡ 7 → ⊥ }
 {
     let mut text = Bytes::new(alloc);

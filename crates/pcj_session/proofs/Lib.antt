@@ -6,5 +6,7 @@ pub mod NameLemmas
 pub mod OnceLemmas
 pub mod ReadLemmas
 pub mod RegisterLemmas
+pub mod SpentLemmas
 pub mod StatusLemmas
 pub mod StepLemmas
+pub mod TableTriples

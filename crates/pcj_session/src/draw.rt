@@ -1,8 +1,9 @@
-ghost use Rattle.std.specs.Prelude.{◌≡◌, ◌≤◌, None, IfOk, IfSome, OnErr};
+ghost use Rattle.std.specs.Prelude.{◌≡◌, ◌≤◌, None, IfOk, IfSome, IsErrOf, OnErr};
 ghost use Rattle.pcj_io.specs.Faults.{Rose};
 ghost use Rattle.pcj_oracle.specs.Clock.{IsClock};
 ghost use Rattle.pcj_oracle.specs.Draw.{Keeps};
-ghost use Rattle.pcj_session.specs.Draws.{DrawsOne, DrawsTwo, DrawsUpTo};
+ghost use Rattle.pcj_session.specs.declared.stop.Stop.TheVariants as stops;
+ghost use Rattle.pcj_session.specs.Draws.{AreSpent, DrawsOne, DrawsTwo, DrawsUpTo};
 
 use crate::stop::Stop;
 use pcj_oracle::{Oracle, OracleError};
@@ -14,6 +15,7 @@ pub(crate) fn draw_two<T: RowTable>(oracle: &mut Oracle, table: &mut T) -> Resul
     requires { IsClock oracle.old (T.rows table.old) }
     ensures drawn { IfOk result (λ number. IfSome number (λ first. DrawsTwo first oracle.old (T.rows table.old) oracle.new (T.rows table.new))) }
     ensures some { DrawsUpTo 2 oracle.old (T.rows table.old) oracle.new (T.rows table.new) }
+    ensures spent { IsErrOf result stops.Spent → AreSpent oracle.new (T.rows table.new) }
     ensures clock { IsClock oracle.new (T.rows table.new) }
     ensures later { T.failures table.old ≤ T.failures table.new }
     ensures fault { IfOk result (λ number. number ≡ None → Rose (T.failures table.old) (T.failures table.new)) }
@@ -32,6 +34,7 @@ fn draw_one<T: RowTable>(oracle: &mut Oracle, table: &mut T) -> Result<Option<u6
     requires { IsClock oracle.old (T.rows table.old) }
     ensures drawn { IfOk result (DrawsOne oracle.old (T.rows table.old) oracle.new (T.rows table.new)) }
     ensures kept { OnErr result (Keeps oracle.old (T.rows table.old) oracle.new (T.rows table.new)) }
+    ensures spent { IsErrOf result stops.Spent → AreSpent oracle.new (T.rows table.new) }
     ensures clock { IsClock oracle.new (T.rows table.new) }
     ensures later { T.failures table.old ≤ T.failures table.new }
     ensures fault { IfOk result (λ number. number ≡ None → Rose (T.failures table.old) (T.failures table.new)) }

@@ -1,6 +1,6 @@
 ghost use Rattle.std.specs.List.{list_any};
 ghost use Rattle.std.specs.Map.{lookup};
-ghost use Rattle.std.specs.Prelude.{◌≡◌, ◌≢◌, ◌≤◌, ◌<◌, ◌^◌, ℕ, true, false, List, [], ◌∷◌, ◌++◌, None, IfOk, IfErr, OnOk};
+ghost use Rattle.std.specs.Prelude.{◌≡◌, ◌≢◌, ◌≤◌, ◌<◌, ◌^◌, ℕ, true, false, List, [], ◌∷◌, ◌++◌, None, IfOk, IfErr, IsErrOf, OnOk};
 ghost use Rattle.pcj_term.specs.Order.{same_bytes};
 ghost use Rattle.pcj_table.specs.Table.{Table, row_at};
 ghost use Rattle.pcj_ntriples.specs.Document.{Document};
@@ -19,6 +19,7 @@ ghost use Rattle.pcj_model.specs.Reply.{Language};
 ghost use Rattle.pcj_model.specs.State.{State};
 ghost use Rattle.pcj_sparql.specs.Query.{QueryText, Refuses};
 ghost use Rattle.pcj_session.specs.declared.stop.Stop.TheVariants as stops;
+ghost use Rattle.pcj_session.specs.Draws.{AreSpent};
 ghost use Rattle.pcj_session.specs.Language.{IsSparql};
 ghost use Rattle.pcj_session.specs.Lines.{lines_of, rows_told};
 ghost use Rattle.pcj_session.specs.Names.{NamesQuery, named_event};
@@ -100,7 +101,8 @@ impl Session {
             IfErr result (StopsAt language others state (command_of command.entry) self.new (T.rows table.new)) }
         ensures clock { IsClock self.new.oracle (T.rows table.new) }
 
-        // When a fault is told.
+        // When a fault is told, and when no number is left.
+        ensures spent { IsErrOf result stops.Spent → AreSpent self.new.oracle (T.rows table.new) }
         ensures later { T.failures table.old ≤ T.failures table.new }
         ensures fault { IfOk result (TellsFault (T.failures table.old) (T.failures table.new)) }
     {
@@ -131,6 +133,7 @@ impl Session {
         ensures stopped { (language : Language) (others : List Actor) (state : State) → Holds others self.old (T.rows table.old) state →
             IfErr result (StopsAt language others state (Load client document.now) self.new (T.rows table.new)) }
         ensures clock { IsClock self.new.oracle (T.rows table.new) }
+        ensures spent { IsErrOf result stops.Spent → AreSpent self.new.oracle (T.rows table.new) }
         ensures later { T.failures table.old ≤ T.failures table.new }
         ensures fault { IfOk result (TellsFault (T.failures table.old) (T.failures table.new)) }
     {
@@ -169,6 +172,7 @@ impl Session {
         ensures stopped { (language : Language) (others : List Actor) (state : State) → Holds others self.old (T.rows table.old) state →
             IfErr result (StopsAt language others state (Load client document.now) self.new (T.rows table.new)) }
         ensures clock { IsClock self.new.oracle (T.rows table.new) }
+        ensures spent { IsErrOf result stops.Spent → AreSpent self.new.oracle (T.rows table.new) }
         ensures later { T.failures table.old ≤ T.failures table.new }
         ensures fault { IfOk result (TellsFault (T.failures table.old) (T.failures table.new)) }
     {
@@ -205,6 +209,7 @@ impl Session {
         ensures stopped { (language : Language) (others : List Actor) (state : State) → IsSparql language → Holds others self.old (T.rows table.old) state →
             IfErr result (StopsAt language others state (Register client name.now text.now) self.new (T.rows table.new)) }
         ensures clock { IsClock self.new.oracle (T.rows table.new) }
+        ensures spent { IsErrOf result stops.Spent → AreSpent self.new.oracle (T.rows table.new) }
         ensures later { T.failures table.old ≤ T.failures table.new }
         ensures fault { IfOk result (TellsFault (T.failures table.old) (T.failures table.new)) }
     {
@@ -240,6 +245,7 @@ impl Session {
         ensures stopped { (language : Language) (others : List Actor) (state : State) (text : List ℕ) → IsSparql language → QueryText text query → Holds others self.old (T.rows table.old) state →
             IfErr result (StopsAt language others state (Register client name.now text) self.new (T.rows table.new)) }
         ensures clock { IsClock self.new.oracle (T.rows table.new) }
+        ensures spent { IsErrOf result stops.Spent → AreSpent self.new.oracle (T.rows table.new) }
         ensures later { T.failures table.old ≤ T.failures table.new }
         ensures fault { IfOk result (TellsFault (T.failures table.old) (T.failures table.new)) }
     {
@@ -270,6 +276,7 @@ impl Session {
         ensures stopped { (language : Language) (others : List Actor) (state : State) → Holds others self.old (T.rows table.old) state →
             IfErr result (StopsAt language others state (StepClient client count) self.new (T.rows table.new)) }
         ensures clock { IsClock self.new.oracle (T.rows table.new) }
+        ensures spent { IsErrOf result stops.Spent → AreSpent self.new.oracle (T.rows table.new) }
         ensures later { T.failures table.old ≤ T.failures table.new }
         ensures fault { IfOk result (TellsFault (T.failures table.old) (T.failures table.new)) }
     {
@@ -322,6 +329,7 @@ impl Session {
         ensures stopped { (language : Language) (others : List Actor) (state : State) → IsSparql language → Holds others self.old (T.rows table.old) state →
             IfErr result (StopsAt language others state (AsksAnswers name.now) self.new (T.rows table.new)) }
         ensures clock { IsClock self.new.oracle (T.rows table.new) }
+        ensures spent { IsErrOf result stops.Spent → AreSpent self.new.oracle (T.rows table.new) }
         ensures later { T.failures table.old ≤ T.failures table.new }
         ensures fault { IfOk result (TellsFault (T.failures table.old) (T.failures table.new)) }
     {
@@ -349,6 +357,7 @@ impl Session {
         ensures stopped { (language : Language) (others : List Actor) (state : State) → IsSparql language → Holds others self.old (T.rows table.old) state →
             IfErr result (StopsAt language others state (Scan text.now) self.new (T.rows table.new)) }
         ensures clock { IsClock self.new.oracle (T.rows table.new) }
+        ensures spent { IsErrOf result stops.Spent → AreSpent self.new.oracle (T.rows table.new) }
         ensures later { T.failures table.old ≤ T.failures table.new }
         ensures fault { IfOk result (TellsFault (T.failures table.old) (T.failures table.new)) }
     {

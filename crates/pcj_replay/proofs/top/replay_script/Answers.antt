@@ -1,4 +1,6 @@
-use Rattle.pcj_replay.proofs.RunLemmas.{replays_input, stops_at_entry}
+use Rattle.std.proofs.Common.{subst, sym}
+use Rattle.pcj_replay.specs.Entry.{IsOpen}
+use Rattle.pcj_replay.proofs.RunLemmas.{ready_behind, replays_input, stops_at_entry}
 use Rattle.pcj_replay.proofs.top.replay_script.Goals as goal
 
 pub returns-in-Err-Failed-clause-replays : goal.returns-in-Err-Failed-clause-replays
@@ -20,3 +22,11 @@ returns-in-Ok-read-clause-table_fault g c = λ is. absurd (c.run.ensures.table i
 
 pub returns-in-Err-clause-replays : goal.returns-in-Err-clause-replays
 returns-in-Err-clause-replays g c = λ language triples sparql has. (stops_at_entry (g.S.Source.left c.args.source.now) (g.K.Sink.taken c.args.sink.now) (g.T.RowTable.rows c.args.table.now) (g.T.RowTable.rows c.pending.new.table) language triples c.requires c.pending.ensures.same has).1
+
+pub returns-in-Ok-read-clause-ready : goal.returns-in-Ok-read-clause-ready
+returns-in-Ok-read-clause-ready g c =
+    ready_behind (g.S.Source.left c.args.source.now) (g.K.Sink.taken c.args.sink.now) (g.K.Sink.taken c.run.new.sink) (g.T.RowTable.rows c.args.table.now) (g.T.RowTable.rows c.pending.new.table) (g.T.RowTable.rows c.run.new.table) c.in-Ok-read.input c.run.result (c.in-Ok-read.ensures {u = tt}).read
+    c.pending.ensures.same c.requires c.sparql_is_a_language.ensures.some (λ language start commands script sparql begins spells. c.run.ensures.ends language start commands script sparql begins spells)
+
+pub returns-in-Ok-read-clause-table_fault_at_entry : goal.returns-in-Ok-read-clause-table_fault_at_entry
+returns-in-Ok-read-clause-table_fault_at_entry g c = λ is. absurd (c.run.ensures.table is)
