@@ -1,1 +1,1 @@
-pub mod TaskLemmas
+mod TaskLemmas
