@@ -1,4 +1,4 @@
-use crate::{act, bytes, items, key, name, range, row, term, text};
+use crate::{act, bytes, items, key, name, range, row, task, term, text};
 use pcj_case_lines::{Answer, Unanswered};
 use pcj_term::Bytes;
 use std::alloc::Global;
@@ -49,6 +49,7 @@ fn reading(
 ) -> Result<(), Unanswered> {
     match call {
         "read_key" => name::read_case(alloc, out, arguments),
+        "read_task" => task::read_case(alloc, out, arguments),
         "read_term" => term::read_case(alloc, out, arguments),
         _ => Err(Unanswered::NoCase),
     }

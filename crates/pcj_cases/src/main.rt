@@ -18,6 +18,7 @@ mod key;
 mod name;
 mod range;
 mod row;
+mod task;
 mod term;
 mod text;
 

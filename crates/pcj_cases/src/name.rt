@@ -150,7 +150,8 @@ fn spell_name(out: &mut Answer, name: &KeyName) -> Result<(), Unanswered> {
     }
 }
 
-fn spell_task(out: &mut Answer, task: &TaskName) -> Result<(), Unanswered> {
+/// Adds the fields that spell a task, without the word before them.
+pub(crate) fn spell_task(out: &mut Answer, task: &TaskName) -> Result<(), Unanswered> {
     match task {
         TaskName::Triple(triple) => {
             out.word("triple")?;
