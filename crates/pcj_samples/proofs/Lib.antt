@@ -1,1 +1,2 @@
 mod EmptyTable
+mod Runs

@@ -16,7 +16,11 @@ mod copies;
 #[cfg(test)]
 mod failing;
 #[cfg(test)]
+mod faults;
+#[cfg(test)]
 mod mem_oracles;
+#[cfg(test)]
+mod mem_scripts;
 #[cfg(test)]
 mod mem_table;
 #[cfg(test)]
@@ -26,11 +30,15 @@ mod notifications;
 #[cfg(test)]
 mod oracles;
 #[cfg(test)]
+mod page_scripts;
+#[cfg(test)]
 mod page_table;
 #[cfg(test)]
 mod pages;
 #[cfg(test)]
 mod rows;
+#[cfg(test)]
+mod scripts;
 #[cfg(test)]
 mod streams;
 #[cfg(test)]
