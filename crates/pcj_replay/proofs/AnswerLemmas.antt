@@ -43,14 +43,15 @@ is_left held table state clock left = record {
         (sound_is_fit (next_number held.oracle table) (row_at table) (actors_of held.clients ++ []) left.sound);
   };
   triples = left.triples;
+  last = let last = left.last in let above = lost_later held.oracle table clock in omega (arith, last, above);
 }
 
 pub holds_left : (held : Held) (table : Table) (state : State) → IsClock held.oracle table → Holds [] held table state → IsLeftWith table state
-holds_left held table state clock holds = is_left held table state clock (record { sound = holds.sound; triples = holds.agrees.triples })
+holds_left held table state clock holds = is_left held table state clock (record { sound = holds.sound; triples = holds.agrees.triples; last = holds.agrees.last })
 
 -- ---- before the first command
 
-below_first : (first : ℕ) → 1 ≤ first → first - 1 < first
+pub below_first : (first : ℕ) → 1 ≤ first → first - 1 < first
 below_first first some = omega (arith, some)
 
 is_zero : (n : ℕ) → n == 0 ≡ true → n ≡ 0

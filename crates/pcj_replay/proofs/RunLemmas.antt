@@ -43,7 +43,7 @@ use Rattle.pcj_replay.specs.Entry.{IsLeftWith, IsOpen, start_over}
 use Rattle.pcj_replay.specs.declared.input.Input.{Input}
 use Rattle.pcj_replay.specs.Input.{IsFrontOf, IsReadFrom, is_ended, lines_up_to, stop_of}
 use Rattle.pcj_replay.specs.Runs.{Begins, Closes, EndsBehind, Finishes, IsEndingOf, IsReadEnd, Ran, Replays, RunsTo, StopsIn, TellsSinkFault}
-use Rattle.pcj_replay.proofs.AnswerLemmas.{holds_first, holds_left}
+use Rattle.pcj_replay.proofs.AnswerLemmas.{below_first, holds_first, holds_left}
 use Rattle.pcj_replay.proofs.InputLemmas.{reads_as, whole_is, whole_of}
 use Rattle.pcj_replay.proofs.ScriptLemmas.{goes_on_with}
 use Rattle.pcj_session.proofs.TableTriples.{table_triples}
@@ -408,7 +408,7 @@ stops_at_entry source taken table table' language triples ready same has =
         end = start_over triples table;
         ends = record { commands = commands; script = script; read = read; ends = (refl, refl) };
         written = Appends-nil taken;
-        left = subst (λ t. IsLeftWith t (start_over triples table)) (sym same) (record { ready = ready; triples = has });
+        left = subst (λ t. IsLeftWith t (start_over triples table)) (sym same) (record { ready = ready; triples = has; last = below_first (stored_number table) ready.clock.first });
       },
       record {
         ending = endings.OutOfMemory;
@@ -421,7 +421,7 @@ stops_at_entry source taken table table' language triples ready same has =
         end = start_over triples table;
         ends = record { commands = commands; script = script; read = read; ends = inl (record { before = []; after = commands; split = refl; told = tells_nothing language (start_over triples table) }) };
         written = Appends-nil taken;
-        left = subst (λ t. IsLeftWith t (start_over triples table)) (sym same) (record { ready = ready; triples = has });
+        left = subst (λ t. IsLeftWith t (start_over triples table)) (sym same) (record { ready = ready; triples = has; last = below_first (stored_number table) ready.clock.first });
       },
     )
 

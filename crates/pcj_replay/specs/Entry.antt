@@ -1,5 +1,5 @@
 -- What a run finds and leaves.
-use Rattle.std.specs.Prelude.{◌≡◌, List, None}
+use Rattle.std.specs.Prelude.{◌<◌, List, None}
 use Rattle.pcj_term.specs.declared.triple.Triple.{Triple}
 use Rattle.pcj_table.specs.Table.{Table, row_at}
 use Rattle.pcj_oracle.specs.Clock.{IsClock, stored_number}
@@ -18,7 +18,8 @@ pub record IsOpen (table : Table) : Type 0 where
 abbrev pub start_over : List Triple → Table → State
 start_over triples table = start_state triples (stored_number table) (notifications_of table) (locks_of table)
 
--- a run may begin with the table, which has the triples of the state
+-- a run may begin with the table, which has the triples of the state; the numbers that it draws are above each that was told
 pub record IsLeftWith (table : Table) (state : State) : Type 0 where
   pub ready : IsOpen table
   pub triples : HasTriples (row_at table) state.triples
+  pub last : state.last < stored_number table

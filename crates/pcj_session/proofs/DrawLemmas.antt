@@ -94,7 +94,7 @@ two_hold number others held oracle' table table' state draws holds =
     drawn_holds (number + 1) others (with_oracle held between) oracle' rows table' state second (drawn_holds number others held between table rows state first holds)
 
 pub left_by : (others : List Actor) (held : Held) (table : Table) (state : State) → Holds others held table state → IsLeft others held table state
-left_by others held table state holds = record { sound = holds.sound; triples = holds.agrees.triples }
+left_by others held table state holds = record { sound = holds.sound; triples = holds.agrees.triples; last = holds.agrees.last }
 
 -- a command that is cut before it changed any triple
 pub cut_short : (language : Language) (others : List Actor) (state : State) (command : Command) (held : Held) (table : Table) → IsLeft others held table state → StopsAt language others state command held table stops.Memory

@@ -18,7 +18,7 @@ use Rattle.pcj_clients.specs.Clients.{actors_of}
 use Rattle.pcj_clients.specs.declared.busy.Busy.{Busy}
 use Rattle.pcj_scan.specs.declared.error.ScanError.{ScanError}
 use Rattle.pcj_scan.specs.declared.error.ScanError.TheVariants as scan_error
-use Rattle.pcj_scan.specs.Scans.{FindsLines, KeepsSound, KeepsTriples, Reads}
+use Rattle.pcj_scan.specs.Scans.{FindsLines, KeepsSound, Reads}
 use Rattle.pcj_jobs.specs.Agrees.{Agrees}
 use Rattle.pcj_jobs.proofs.StateLemmas.{beside_agrees}
 use Rattle.pcj_model.specs.declared.line.Line.{Line as Written}
@@ -97,12 +97,11 @@ read_holds others held oracle' table table' state reads keeps holds = record {
 }
 
 -- the triples stay, however it ends
-pub read_left : (others : List Actor) (held : Held) (oracle' : Option Block) (table table' : Table) (state : State) → KeepsSound held.oracle table oracle' table' → KeepsTriples held.oracle table table' → Holds others held table state →
+pub read_left : (others : List Actor) (held : Held) (oracle' : Option Block) (table table' : Table) (state : State) → Reads held.oracle table oracle' table' → KeepsSound held.oracle table oracle' table' → Holds others held table state →
     IsLeft others (with_oracle held oracle') table' state
-read_left others held oracle' table table' state keeps stay holds = record {
-  sound = keeps (actors_of held.clients ++ others) holds.sound;
-  triples = stay (actors_of held.clients ++ others) state.triples holds.sound holds.agrees.triples;
-}
+read_left others held oracle' table table' state reads keeps holds =
+    let after = read_holds others held oracle' table table' state reads keeps holds in
+    record { sound = after.sound; triples = after.agrees.triples; last = after.agrees.last }
 
 -- the rows that are found are those of the language
 pub rows_are : (language : Language) (others : List Actor) (held : Held) (table : Table) (state : State) (text : List ℕ) (query : Query) (rows : List (List ℕ)) → HaveOneList → IsSparql language → Holds others held table state → QueryText text query →
@@ -149,9 +148,9 @@ pub answers_unknown : (language : Language) (others : List Actor) (name : List �
 answers_unknown language others name held table state none holds = (state, inl (record { unnamed = is_unregistered state.queries held.queries name holds.queries none; told = refl; same = refl }), holds)
 
 pub answers_spent : (language : Language) (others : List Actor) (name : List ℕ) (query : Query) (held : Held) (oracle' : Option Block) (table table' : Table) (state : State) → lookup (same_bytes name) held.queries ≡ Some query →
-    KeepsSound held.oracle table oracle' table' → KeepsTriples held.oracle table table' → Holds others held table state → StopsAt language others state (commands.Answers name) (with_oracle held oracle') table' stops.Spent
-answers_spent language others name query held oracle' table table' state named keeps stay holds =
-    let found = is_registered state.queries held.queries name query holds.queries named in ((found.registration, found.named), read_left others held oracle' table table' state keeps stay holds)
+    Reads held.oracle table oracle' table' → KeepsSound held.oracle table oracle' table' → Holds others held table state → StopsAt language others state (commands.Answers name) (with_oracle held oracle') table' stops.Spent
+answers_spent language others name query held oracle' table table' state named reads keeps holds =
+    let found = is_registered state.queries held.queries name query holds.queries named in ((found.registration, found.named), read_left others held oracle' table table' state reads keeps holds)
 
 -- ---- faults
 

@@ -140,7 +140,7 @@ named_answered language others client number name text query held oracle' querie
 -- ---- where it stops
 
 pub left_with : (others : List Actor) (held : Held) (queries : List (List ℕ × Query)) (oracle : Option Block) (table : Table) (state : State) → IsLeft others (with_oracle held oracle) table state → IsLeft others (with_queries held queries oracle) table state
-left_with others held queries oracle table state left = record { sound = left.sound; triples = left.triples }
+left_with others held queries oracle table state left = record { sound = left.sound; triples = left.triples; last = left.last }
 
 pub register_stopped : (language : Language) (others : List Actor) (client : ℕ) (name text : List ℕ) (held : Held) (oracle' : Option Block) (table table' : Table) (state : State) (stop : Stop) → state.jobs client ≡ None → language.register_refusal text ≡ None →
     DrawsUpTo 2 held.oracle table oracle' table' → Holds others held table state → StopsAt language others state (commands.Register client name text) (with_oracle held oracle') table' stop

@@ -1,9 +1,9 @@
 -- What a command to make steps may answer.
-use Rattle.std.proofs.Common.{◌≡◌, ◌≢◌, ◌⊎◌, ◌≤◌, ℕ, true, List, [], ◌∷◌, ◌++◌, map, Option, Some, None, is_some, inl, inr, refl, ap, sym, subst, ◌∙◌}
+use Rattle.std.proofs.Common.{◌≡◌, ◌≢◌, ◌⊎◌, ◌≤◌, ◌<◌, ℕ, true, List, [], ◌∷◌, ◌++◌, map, Option, Some, None, is_some, inl, inr, refl, ap, sym, subst, ◌∙◌, arith}
 use Rattle.std.specs.List.{list_any}
 use Rattle.std.proofs.lemmas.List.{append-nil}
 use Rattle.pcj_table.specs.Table.{Table, row_at}
-use Rattle.pcj_oracle.specs.Clock.{IsClock}
+use Rattle.pcj_oracle.specs.Clock.{IsClock, next_number}
 use Rattle.pcj_oracle.specs.declared.block.Block.{Block}
 use Rattle.pcj_moves.specs.Actors.{Actor}
 use Rattle.pcj_fit.specs.Triples.{HasTriples}
@@ -18,13 +18,14 @@ use Rattle.pcj_clients.specs.declared.stepped.StepsEnd.TheVariants as all
 use Rattle.pcj_jobs.specs.Agrees.{Agrees}
 use Rattle.pcj_jobs.specs.Laws.{IsEndOf, ShortKnown, SpentKnown, StepsAnswer}
 use Rattle.pcj_jobs.proofs.FinishLemmas.{short_agrees, spent_agrees, steps_agree}
+use Rattle.pcj_jobs.proofs.ReachLemmas.{numbers_never_fall}
 use Rattle.pcj_script.specs.Commands.{Command as commands}
 use Rattle.pcj_model.specs.Job as told
 use Rattle.pcj_model.specs.Laws.{is_fault}
 use Rattle.pcj_model.specs.Line.{Event as events}
 use Rattle.pcj_model.specs.Line.Line.{Client}
 use Rattle.pcj_model.specs.Reply.{Advances, Language}
-use Rattle.pcj_model.specs.State.{State, joined_by, stepped}
+use Rattle.pcj_model.specs.State.{State, joined_by, last_after, stepped}
 use Rattle.pcj_session.specs.declared.stop.Stop.TheVariants as stops
 use Rattle.pcj_session.specs.Lines.{end_events, told_lines}
 use Rattle.pcj_session.specs.Session.{Held, Holds, StopsAt}
@@ -83,7 +84,7 @@ pub steps_spent : (language : Language) (others : List Actor) (client most : ℕ
     came ≡ stepped_from no_steps steps → AreStepsOf client most held.clients held.oracle table steps clients oracle table' → came.end ≡ all.Spent → KeepsAllSound held.clients held.oracle table clients oracle table' → IsClock oracle table' →
     Holds others held table state → StopsAt language others state (commands.StepClient client most) (with_clients held clients oracle) table' stops.Spent
 steps_spent language others client most held clients oracle table table' state came steps busy asks is are ends keeps clock holds =
-    ((answer.known, answer.has, answer.undone), record { sound = keeps others holds.sound; triples = answer.triples })
+    ((answer.known, answer.has, answer.undone), record { sound = keeps others holds.sound; triples = answer.triples; last = (answer.agrees).last })
   where
     its : (job : Job) × (job_of held.clients client ≡ Some job)
     its = has_some (job_of held.clients client) busy
@@ -103,11 +104,16 @@ steps_short language others client most held clients oracle table table' state s
     answer : ShortKnown client most clients oracle table' state
     answer = short_agrees client most held.clients held.oracle table steps clients oracle table' its.0 others state its.1 wants holds.sound (next_below oracle table' clock) holds.agrees
 
+    later : state.last < next_number oracle table'
+    later =
+        let rises = numbers_never_fall steps client held.clients held.oracle table clients oracle table' others wants.steps holds.sound in
+        let last = holds.agrees.last in omega (arith, rises, last)
+
     Left : Option ℕ → Type 0
     Left commit = HasTriples (row_at table') state.triples ⊎ ((1 ≤ answer.count) × (answer.count ≤ most) × Agrees oracle table' clients (stepped state client answer.known commit (Some (told.grown answer.known commit answer.count)) answer.count))
 
     nothing : HasTriples (row_at table') state.triples → StopsAt language others state (commands.StepClient client most) (with_clients held clients oracle) table' stops.Memory
-    nothing has = ([], state, inl (refl, refl), record { sound = keeps others holds.sound; triples = has })
+    nothing has = ([], state, inl (refl, refl), record { sound = keeps others holds.sound; triples = has; last = later })
 
     by : (commit : Option ℕ) → answer.commit ≡ commit → Left answer.commit → StopsAt language others state (commands.StepClient client most) (with_clients held clients oracle) table' stops.Memory
     by commit is (inl has) = nothing has
@@ -133,6 +139,7 @@ steps_short language others client most held clients oracle table table' state s
       record {
         sound = keeps others holds.sound;
         triples = subst (λ c. HasTriples (row_at table') (state.triples ++ joined_by state answer.known c)) is agrees.triples;
+        last = subst (λ c. last_after state.last c < next_number oracle table') is agrees.last;
       },
     )
 

@@ -1,8 +1,9 @@
 -- What a session has, and what its answers are.
-use Rattle.std.specs.Prelude.{◌≡◌, ◌⊎◌, ℕ, true, List, [], ◌∷◌, ◌++◌, Option, None}
+use Rattle.std.specs.Prelude.{◌≡◌, ◌⊎◌, ◌<◌, ℕ, true, List, [], ◌∷◌, ◌++◌, Option, None}
 use Rattle.std.specs.List.{list_any}
 use Rattle.pcj_table.specs.Table.{Table, row_at}
 use Rattle.pcj_io.specs.Faults.{Rose}
+use Rattle.pcj_oracle.specs.Clock.{next_number}
 use Rattle.pcj_oracle.specs.declared.block.Block.{Block}
 use Rattle.pcj_moves.specs.Actors.{Actor}
 use Rattle.pcj_actor.specs.StepLaws.{state_of}
@@ -54,10 +55,11 @@ pub record Holds (others : List Actor) (held : Held) (table : Table) (state : St
   pub queries : AreQueriesOf state.queries held.queries
   pub agrees : Agrees held.oracle table held.clients state
 
--- the table is sound with all who are at work, and has the triples of the state
+-- the table is sound with all who are at work, has the triples of the state, and goes on above each number that was told
 pub record IsLeft (others : List Actor) (held : Held) (table : Table) (state : State) : Type 0 where
   pub sound : Sound (state_of held.oracle table (actors_of held.clients ++ others))
   pub triples : HasTriples (row_at table) state.triples
+  pub last : state.last < next_number held.oracle table
 
 -- ---- answers
 

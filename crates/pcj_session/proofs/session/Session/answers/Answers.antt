@@ -32,8 +32,8 @@ returns-clause-stopped g c = λ language others state sparql holds.
     let there = (subst (λ (h : Held). Holds others h (g.T.RowTable.rows c.args.table.now) state) (sym c.self.view_is) holds) in
     let named = (subst (λ name. lookup (same_bytes name) c.self.inside.queries.entries ≡ Some c.in-Some.query.now) (c.in_ok-key.ensures {u = tt}) (sym (c.in-Some.ensures {u = tt}).value)) in
     rows_stopped (StopsAt language others state (commands.Answers c.args.name.now) (with_oracle (record { clients = c.self.inside.clients; queries = c.self.inside.queries.entries; oracle = c.self.inside.oracle }) c.scan-rows.new.oracle) (g.T.RowTable.rows c.scan-rows.new.table)) _ c.scan-rows.result c.rows_reply.result c.rows_reply.ensures
-    (cut_short language others state (commands.Answers c.args.name.now) (with_oracle (record { clients = c.self.inside.clients; queries = c.self.inside.queries.entries; oracle = c.self.inside.oracle }) c.scan-rows.new.oracle) (g.T.RowTable.rows c.scan-rows.new.table) (read_left others (record { clients = c.self.inside.clients; queries = c.self.inside.queries.entries; oracle = c.self.inside.oracle }) c.scan-rows.new.oracle (g.T.RowTable.rows c.args.table.now) (g.T.RowTable.rows c.scan-rows.new.table) state c.scan-rows.ensures.sound c.scan-rows.ensures.triples there))
-    (answers_spent language others c.args.name.now c.in-Some.query.now (record { clients = c.self.inside.clients; queries = c.self.inside.queries.entries; oracle = c.self.inside.oracle }) c.scan-rows.new.oracle (g.T.RowTable.rows c.args.table.now) (g.T.RowTable.rows c.scan-rows.new.table) state named c.scan-rows.ensures.sound c.scan-rows.ensures.triples there)
+    (cut_short language others state (commands.Answers c.args.name.now) (with_oracle (record { clients = c.self.inside.clients; queries = c.self.inside.queries.entries; oracle = c.self.inside.oracle }) c.scan-rows.new.oracle) (g.T.RowTable.rows c.scan-rows.new.table) (read_left others (record { clients = c.self.inside.clients; queries = c.self.inside.queries.entries; oracle = c.self.inside.oracle }) c.scan-rows.new.oracle (g.T.RowTable.rows c.args.table.now) (g.T.RowTable.rows c.scan-rows.new.table) state c.scan-rows.ensures.moves c.scan-rows.ensures.sound there))
+    (answers_spent language others c.args.name.now c.in-Some.query.now (record { clients = c.self.inside.clients; queries = c.self.inside.queries.entries; oracle = c.self.inside.oracle }) c.scan-rows.new.oracle (g.T.RowTable.rows c.args.table.now) (g.T.RowTable.rows c.scan-rows.new.table) state named c.scan-rows.ensures.moves c.scan-rows.ensures.sound there)
 
 pub returns-clause-fault : goal.returns-clause-fault
 returns-clause-fault g c = fault_told (g.T.RowTable.failures c.args.table.now) (g.T.RowTable.failures c.scan-rows.new.table) _ c.scan-rows.result c.rows_reply.result c.rows_reply.ensures c.scan-rows.ensures.cause.failed

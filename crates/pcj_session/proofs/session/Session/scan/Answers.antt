@@ -22,7 +22,7 @@ returns-in-Ok-clause-answered g c = λ language others state sparql holds.
 pub returns-in-Ok-clause-stopped : goal.returns-in-Ok-clause-stopped
 returns-in-Ok-clause-stopped g c = λ language others state sparql holds.
     let there = (subst (λ (h : Held). Holds others h (g.T.RowTable.rows c.args.table.now) state) (sym c.self.view_is) holds) in
-    let left = read_left others (record { clients = c.self.inside.clients; queries = c.self.inside.queries.entries; oracle = c.self.inside.oracle }) c.scan-rows.new.oracle (g.T.RowTable.rows c.args.table.now) (g.T.RowTable.rows c.scan-rows.new.table) state c.scan-rows.ensures.sound c.scan-rows.ensures.triples there in
+    let left = read_left others (record { clients = c.self.inside.clients; queries = c.self.inside.queries.entries; oracle = c.self.inside.oracle }) c.scan-rows.new.oracle (g.T.RowTable.rows c.args.table.now) (g.T.RowTable.rows c.scan-rows.new.table) state c.scan-rows.ensures.moves c.scan-rows.ensures.sound there in
     rows_stopped (StopsAt language others state (commands.Scan c.args.text.now) (with_oracle (record { clients = c.self.inside.clients; queries = c.self.inside.queries.entries; oracle = c.self.inside.oracle }) c.scan-rows.new.oracle) (g.T.RowTable.rows c.scan-rows.new.table)) _ c.scan-rows.result c.rows_reply.result c.rows_reply.ensures
     (cut_short language others state (commands.Scan c.args.text.now) (with_oracle (record { clients = c.self.inside.clients; queries = c.self.inside.queries.entries; oracle = c.self.inside.oracle }) c.scan-rows.new.oracle) (g.T.RowTable.rows c.scan-rows.new.table) left) (sparql.scans c.args.text.now c.get.result.now (subst (QueryText c.args.text.now) (sym c.get.ensures) (c.in-Ok.ensures {u = tt}).query), left)
 
