@@ -12,7 +12,7 @@ use pcj_oracle::{Oracle, OracleError};
 use pcj_pages::PageTable;
 use pcj_rowtables::triple_rows;
 use pcj_table::{Cond, Plain, RowTable, Update};
-use pcj_term::{Bytes, Items, Triple};
+use pcj_term::{Bytes, Items, Memory, Triple};
 use std::alloc::Global;
 use std::fmt;
 use std::time::{Clock, Duration, Instant};
@@ -227,9 +227,14 @@ fn add_keys(alloc: Global, keys: &mut Vec<Bytes>, text: &[u8]) -> Result<(), Fai
 /// Adds the keys of a triple's rows and of its task.
 fn add_rows(alloc: Global, keys: &mut Vec<Bytes>, triple: Triple) -> Result<(), Failure> {
     append(keys, triple_rows(alloc, &triple)?)?;
-    let task = KeyName::Task(TaskName::Triple(triple));
-    keys.push(write_key(alloc, &task)?)?;
+    keys.push(task_key(alloc, triple)?)?;
     Ok(())
+}
+
+/// The key of a triple's task. What is owned here has one way out.
+fn task_key(alloc: Global, triple: Triple) -> Result<Bytes, Memory> {
+    let task = KeyName::Task(TaskName::Triple(triple));
+    write_key(alloc, &task)
 }
 
 fn append(keys: &mut Vec<Bytes>, more: Items<Bytes>) -> Result<(), Failure> {

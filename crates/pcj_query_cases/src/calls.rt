@@ -35,11 +35,11 @@ fn match_of(
     out: &mut Answer,
     triple: &Triple,
 ) -> Result<(), Unanswered> {
-    let pattern = parts.take_pattern()?;
+    let pattern = parts.pattern()?;
     show_match(
         alloc,
         out,
-        match_triple(alloc, triple_pattern(&pattern)?, triple),
+        match_triple(alloc, triple_pattern(pattern)?, triple),
     )
 }
 
@@ -60,8 +60,8 @@ pub(crate) fn answer_variables(
     parts: &mut Parts,
     out: &mut Answer,
 ) -> Result<(), Unanswered> {
-    let pattern = parts.take_pattern()?;
-    let names = variables(alloc, &pattern)?;
+    let pattern = parts.pattern()?;
+    let names = variables(alloc, pattern)?;
     show_names(out, names.as_slice())
 }
 
@@ -71,8 +71,8 @@ pub(crate) fn answer_rows(
     parts: &mut Parts,
     out: &mut Answer,
 ) -> Result<(), Unanswered> {
-    let pattern = parts.take_pattern()?;
-    show_rows(out, pattern_rows(alloc, triple_pattern(&pattern)?))
+    let pattern = parts.pattern()?;
+    show_rows(out, pattern_rows(alloc, triple_pattern(pattern)?))
 }
 
 fn show_rows(out: &mut Answer, rows: Result<(Order, KeyRange), Memory>) -> Result<(), Unanswered> {

@@ -17,8 +17,8 @@ pub(crate) fn answer_solutions(
     parts: &mut Parts,
     out: &mut Answer,
 ) -> Result<(), Unanswered> {
-    let pattern = parts.take_pattern()?;
-    show_solutions(alloc, out, solutions_of(alloc, &pattern, parts.triples()))
+    let pattern = parts.pattern()?;
+    show_solutions(alloc, out, solutions_of(alloc, pattern, parts.triples()))
 }
 
 fn show_solutions(
@@ -40,7 +40,7 @@ pub(crate) fn answer_lines(
     out: &mut Answer,
 ) -> Result<(), Unanswered> {
     let query = parts.distinct()?;
-    show_lines(out, lines_of(alloc, &query, parts.triples()))
+    show_lines(out, lines_of(alloc, query.get(), parts.triples()))
 }
 
 /// The same of an aggregate of the last name but one.
@@ -51,7 +51,7 @@ pub(crate) fn answer_group_lines(
     aggregate: Aggregate,
 ) -> Result<(), Unanswered> {
     let query = parts.group(aggregate)?;
-    show_lines(out, lines_of(alloc, &query, parts.triples()))
+    show_lines(out, lines_of(alloc, query.get(), parts.triples()))
 }
 
 fn show_lines(out: &mut Answer, lines: Result<Items<Bytes>, Memory>) -> Result<(), Unanswered> {

@@ -156,6 +156,11 @@ impl Parts {
         }
     }
 
+    /// The last pattern, which stays.
+    pub(crate) fn pattern(&self) -> Result<&Pattern, Unanswered> {
+        self.patterns.last().ok_or(Unanswered::NoCase)
+    }
+
     /// The last pattern.
     pub(crate) fn take_pattern(&mut self) -> Result<Pattern, Unanswered> {
         self.patterns.pop().ok_or(Unanswered::NoCase)
@@ -194,17 +199,20 @@ impl Parts {
 
 impl Parts {
     /// `SELECT DISTINCT` of the names that are left, over the last pattern.
-    pub(crate) fn distinct(&mut self) -> Result<Query, Unanswered> {
-        let pattern = self.take_pattern()?;
+    pub(crate) fn distinct(&mut self) -> Result<Boxed<Query>, Unanswered> {
         let shape = Shape::Distinct(self.names()?);
-        Ok(Query { shape, pattern })
+        self.query(shape)
     }
 
     /// An aggregate of the last name but one under the last name, with the others as keys, over the last pattern.
-    pub(crate) fn group(&mut self, aggregate: Aggregate) -> Result<Query, Unanswered> {
-        let pattern = self.take_pattern()?;
+    pub(crate) fn group(&mut self, aggregate: Aggregate) -> Result<Boxed<Query>, Unanswered> {
         let shape = self.group_shape(aggregate)?;
-        Ok(Query { shape, pattern })
+        self.query(shape)
+    }
+
+    fn query(&mut self, shape: Shape) -> Result<Boxed<Query>, Unanswered> {
+        let pattern = self.take_pattern()?;
+        Ok(Boxed::new(self.alloc, Query { shape, pattern })?)
     }
 
     fn group_shape(&mut self, aggregate: Aggregate) -> Result<Shape, Unanswered> {

@@ -70,7 +70,7 @@ fn add_word(parts: &mut Parts, word: &str) -> Result<(), Unanswered> {
 
 fn end_distinct(alloc: Global, parts: &mut Parts, out: &mut Answer) -> Result<(), Unanswered> {
     let query = parts.distinct()?;
-    copy_query(alloc, out, &query)
+    copy_query(alloc, out, query.get())
 }
 
 fn end_group(
@@ -80,7 +80,7 @@ fn end_group(
     aggregate: Aggregate,
 ) -> Result<(), Unanswered> {
     let query = parts.group(aggregate)?;
-    copy_query(alloc, out, &query)
+    copy_query(alloc, out, query.get())
 }
 
 fn end_mapping(alloc: Global, parts: &mut Parts, out: &mut Answer) -> Result<(), Unanswered> {
