@@ -1,5 +1,9 @@
 pub mod RowLemmas
 pub mod NumberLemmas
+pub mod OldLemmas
+pub mod WriteLemmas
+pub mod RegisterLemmas
+pub mod RegisteredLemmas
 pub mod PlanLemmas
 pub mod FitLemmas
 pub mod SoundLemmas

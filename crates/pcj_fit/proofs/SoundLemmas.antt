@@ -61,6 +61,8 @@ fit_grows number more rows le fit = record {
   once = fit.once;
   apart = fit.apart;
   atomic = fit.atomic;
+  registered = fit.registered;
+  origins = fit.origins;
 }
 
 pub higher_is_sound : HigherIsSound

@@ -15,8 +15,9 @@ use Rattle.pcj_table.specs.declared.row.Row.{Row}
 use Rattle.pcj_table.specs.declared.version.Version.{Version}
 use Rattle.pcj_encode.specs.declared.order.Order.{Order}
 use Rattle.pcj_encode.specs.declared.order.Order.TheVariants.{Spo, Pos, Osp}
+use Rattle.pcj_encode.specs.declared.task_name.TaskName.TheVariants as task
 use Rattle.pcj_encode.specs.declared.key_name.KeyName.TheVariants as row
-use Rattle.pcj_encode.specs.Name.{IsTriple}
+use Rattle.pcj_encode.specs.Name.{IsTriple, key_of}
 use Rattle.pcj_rowtables.specs.Rows.{triple_key}
 use Rattle.pcj_oracle.specs.Clock.{clock_key}
 use Rattle.pcj_mvcc.specs.Acts.{version_of}
@@ -30,6 +31,7 @@ use Rattle.pcj_moves.proofs.StandingLemmas.{one_move_changes}
 use Rattle.pcj_moves.specs.Moves.{CommitPrimary, rows_after}
 use Rattle.pcj_choices.proofs.ClaimLemmas.{reads_the_same}
 use Rattle.pcj_fit.specs.Laws.{ClockAloneIsFit, FoundAreThere, LoadsAddTriples, MovesLeaveTriples}
+use Rattle.pcj_fit.specs.Origins.{IsAfter}
 use Rattle.pcj_fit.specs.Plans.{AreReadOf, IsLoadPlan, absent_of, load_writes}
 use Rattle.pcj_fit.specs.Rows.{Decodes, HoldsVersions, IsDecoded, IsLockOf, IsVersionOf}
 use Rattle.pcj_fit.specs.Triples.{HasTriples}
@@ -219,6 +221,15 @@ clock_alone_is_fit number rows alone = (
       locks = λ key start commit e. absurd (never key start commit e);
     };
     atomic = record { pos = λ triple valid. stands Pos triple ∙ sym (stands Spo triple); osp = λ triple valid. stands Osp triple ∙ sym (stands Spo triple) };
+    registered = record {
+      names = λ name put e. absurd (nothing (key_of (row.Name name)) put e);
+      registrations = λ registration put small e. absurd (nothing (key_of (row.Registration registration)) put e);
+      patterns = λ registration node put small small' e. absurd (nothing (key_of (row.Pattern registration node)) put e);
+    };
+    origins = record {
+      triples = λ triple valid. untasked (key_of (row.Task (task.Triple triple))) (triple_key Spo triple);
+      backfills = λ registration node small small'. untasked (key_of (row.Task (task.Backfill registration node))) (key_of (row.Pattern registration node));
+    };
   },
   record {
     valid = All-nil IsTriple;
@@ -239,8 +250,17 @@ clock_alone_is_fit number rows alone = (
     never : (key : Key) (start commit : ℕ) → committed rows key start ≡ Some commit → ⊥
     never key start commit e = let clash : None ≡ Some commit = ap (Rattle.pcj_mvcc.specs.Reading.commit_of start) (sym (none key).1) ∙ e in cc
 
+    stands_nowhere : (key : Key) → standing rows key ≡ None
+    stands_nowhere key = ap (λ vs. put_of (newest vs)) (nothing_read rows none key)
+
     stands : (order : Order) (triple : Triple) → standing rows (triple_key order triple) ≡ None
-    stands order triple = ap (λ vs. put_of (newest vs)) (nothing_read rows none (triple_key order triple))
+    stands order triple = stands_nowhere (triple_key order triple)
+
+    nothing : (key : Key) (put : Put) → standing rows key ≡ Some put → ⊥
+    nothing key put e = let clash : None ≡ Some put = sym (stands_nowhere key) ∙ e in cc
+
+    untasked : (key origin : Key) → IsAfter (standing rows key) (standing rows origin)
+    untasked key origin = subst (λ found. IsAfter found (standing rows origin)) (sym (stands_nowhere key)) tt
 
     at : (key : Key) → has_nothing (rows key) ≡ false → (key ≡ clock_key) ⊎ (key ≡ clock_key → ⊥) → IsDecoded number key (rows key)
     at key some (inl same) = record { name = row.Clock; valid = tt; granted = tt; is = same; holds = subst (λ k. Rattle.pcj_fit.specs.Rows.IsClockRow (rows k)) (sym same) alone.clock }

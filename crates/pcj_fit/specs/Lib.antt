@@ -1,6 +1,8 @@
 pub mod Names
+pub mod Registrations
 pub mod Values
 pub mod Rows
+pub mod Origins
 pub mod Fit
 pub mod Triples
 pub mod Plans
