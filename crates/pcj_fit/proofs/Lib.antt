@@ -7,5 +7,8 @@ pub mod RegisteredLemmas
 pub mod PlanLemmas
 pub mod FitLemmas
 pub mod SoundLemmas
+pub mod PutLemmas
 pub mod TripleLemmas
+pub mod QueryLemmas
 pub mod StepLemmas
+pub mod TableTriples

@@ -1,5 +1,5 @@
 -- The rows that a transaction may commit next: what stands there stood at its start.
-use Rattle.std.proofs.Common.{◌≡◌, ◌<◌, ℕ, true, nat_le, nat_lt, List, [], ◌∷◌, length, take, Option, Some, None, refl, ap, ap₂, sym, ◌∙◌, arith}
+use Rattle.std.proofs.Common.{◌≡◌, ◌<◌, ℕ, true, nat_le, nat_lt, List, [], ◌∷◌, length, take, Option, Some, None, refl, ap, sym, ◌∙◌, arith}
 use Rattle.std.proofs.lemmas.Bool.{and_parts, le-leb, ltb-true}
 use Rattle.std.proofs.lemmas.List.{take_all}
 use Rattle.std.specs.Option.{option_map}
@@ -14,7 +14,7 @@ use Rattle.pcj_mvcc.specs.Acts.{lock_of}
 use Rattle.pcj_mvcc.specs.Reading.{Put, Rows, put_of, seen, standing, versions_read}
 use Rattle.pcj_mvcc.specs.Times.{TimesInOrder}
 use Rattle.pcj_moves.specs.Traces.{Trace, traces}
-use Rattle.pcj_moves.specs.Transactions.{IsRipe, Transaction, Transacts, lock_at, primary_of, write_at}
+use Rattle.pcj_moves.specs.Transactions.{IsRipe, Transaction, Transacts, primary_of, write_at}
 use Rattle.pcj_moves.proofs.OtherLemmas.{lock_is, ripe_is_held}
 use Rattle.pcj_moves.proofs.StepLemmas.{uncommitted}
 

@@ -22,7 +22,7 @@ use Rattle.pcj_tree.specs.declared.tree.Tree.{Tree}
 use Rattle.pcj_moves.specs.declared.answer.Answer.{Answer}
 use Rattle.pcj_moves.specs.declared.answer.Answer.TheVariants.{OfRange, OfRow}
 use Rattle.pcj_moves.specs.Transactions.{are_distinct, write_at}
-use Rattle.pcj_fit.specs.Names.{IsGranted, IsNameGranted, IsTermGranted, IsTripleGranted}
+use Rattle.pcj_fit.specs.Names.{IsGranted, IsTermGranted, IsTripleGranted}
 use Rattle.pcj_fit.specs.Plans.{HasPlan, IsOfLoad, IsTripleOfLoad, absent_of, load_writes, put_mark, registration_writes}
 use Rattle.pcj_fit.specs.Registrations.{IsQueryTree}
 use Rattle.pcj_fit.proofs.RegisterLemmas.{can_register, register_names}

@@ -1,9 +1,8 @@
 -- What a registration writes.
-use Rattle.std.proofs.Common.{◌≡◌, ◌≢◌, inl, ◌<◌, ◌≤◌, ◌+◌, ◌^◌, ℕ, zero, suc, true, false, List, [], ◌∷◌, ◌++◌, length, Option, Some, None, refl, ap, sym, subst, ◌∙◌, arith}
+use Rattle.std.proofs.Common.{◌≡◌, ◌≢◌, inl, ◌<◌, ◌≤◌, ◌+◌, ◌^◌, ℕ, zero, suc, true, List, [], ◌∷◌, ◌++◌, length, Option, Some, None, refl, ap, sym, subst, ◌∙◌, arith}
 use Rattle.std.proofs.lemmas.List.{length-append}
 use Rattle.std.specs.Option.{option_map}
 use Rattle.pcj_term.proofs.ByteLemmas.{same_bytes_itself}
-use Rattle.pcj_term.specs.Order.{same_bytes}
 use Rattle.pcj_table.specs.declared.write.Write.{Write}
 use Rattle.pcj_encode.specs.declared.task_name.TaskName.TheVariants as task
 use Rattle.pcj_encode.specs.declared.key_name.KeyName.{KeyName}

@@ -1,18 +1,15 @@
 -- What stands of registrations, and of the rows that tasks were made for, after a commit.
-use Rattle.std.proofs.Common.{◌≡◌, ◌≢◌, ◌⊎◌, inl, inr, ◌<◌, ◌≤◌, ℕ, List, [], ◌∷◌, Option, Some, None, refl, ap, sym, subst, ◌∙◌, arith}
+use Rattle.std.proofs.Common.{◌≡◌, ◌≢◌, ◌⊎◌, inl, inr, ◌<◌, ℕ, List, [], Option, Some, None, refl, ap, sym, subst, ◌∙◌, arith}
 use Rattle.std.specs.Option.{option_map}
 use Rattle.pcj_term.proofs.ByteLemmas.{bytes_cases}
 use Rattle.pcj_table.specs.Row.{newest}
 use Rattle.pcj_table.specs.Table.{Key}
 use Rattle.pcj_table.specs.declared.version.Version.{Version}
-use Rattle.pcj_table.specs.declared.write.Write.{Write}
 use Rattle.pcj_encode.specs.declared.task_name.TaskName.TheVariants as task
-use Rattle.pcj_encode.specs.declared.key_name.KeyName.{KeyName}
 use Rattle.pcj_encode.specs.declared.key_name.KeyName.TheVariants as row
-use Rattle.pcj_encode.specs.Name.{IsName, IsNode, IsRegistration, key_of, registration_part}
+use Rattle.pcj_encode.specs.Name.{IsNode, IsRegistration, key_of, registration_part}
 use Rattle.pcj_tree.specs.declared.tree.Tree.{Tree}
 use Rattle.pcj_mvcc.specs.Reading.{Put, Rows, put_of, standing, versions_read}
-use Rattle.pcj_moves.specs.Transactions.{write_at}
 use Rattle.pcj_moves.specs.StandingLaws.{StandsWhole}
 use Rattle.pcj_moves.proofs.ActorLemmas.{by_number}
 use Rattle.pcj_fit.specs.Origins.{IsAfter, TasksHaveOrigins}
@@ -95,7 +92,7 @@ other_names : (before after : Rows) (start : ℕ) (name : List ℕ) (tree : Tree
 other_names before after start name tree commit other is differs = (is.whole.others (key_of (row.Name other)) (none_written (registration_writes start name tree) (row.Name other) tt
     (register_names (λ n. n ≢ row.Name other) start name tree is.number is.of_query (λ e. differs (cc)) (λ e. cc) (λ node e. cc) (λ node e. cc)))).stands
 
-other_registrations : (before after : Rows) (start : ℕ) (name : List ℕ) (tree : Tree) (commit : ℕ) (other : ℕ) → Registers before after start name tree commit → IsRegistration other → start ≢ other →
+pub other_registrations : (before after : Rows) (start : ℕ) (name : List ℕ) (tree : Tree) (commit : ℕ) (other : ℕ) → Registers before after start name tree commit → IsRegistration other → start ≢ other →
     standing after (key_of (row.Registration other)) ≡ standing before (key_of (row.Registration other))
 other_registrations before after start name tree commit other is number differs = (is.whole.others (key_of (row.Registration other)) (none_written (registration_writes start name tree) (row.Registration other) number
     (register_names (λ n. n ≢ row.Registration other) start name tree is.number is.of_query (λ e. cc) (λ e. differs (cc)) (λ node e. cc) (λ node e. cc)))).stands

@@ -5,6 +5,8 @@ pub mod Rows
 pub mod Origins
 pub mod Fit
 pub mod Triples
+pub mod Queries
 pub mod Plans
 pub mod Sound
 pub mod Laws
+pub mod QueryLaws

@@ -19,7 +19,7 @@ use Rattle.pcj_encode.specs.declared.order.Order.TheVariants.{Spo, Pos, Osp}
 use Rattle.pcj_encode.specs.Name.{IsName, IsTriple, key_of}
 use Rattle.pcj_encode.proofs.Names.{names_one_row}
 use Rattle.pcj_rowtables.specs.Rows.{triple_key}
-use Rattle.pcj_mvcc.specs.Reading.{Put, Rows, committed, put_of, reading, standing}
+use Rattle.pcj_mvcc.specs.Reading.{Rows, committed, put_of, reading, standing}
 use Rattle.pcj_fit.specs.Rows.{Decodes}
 use Rattle.pcj_fit.specs.Triples.{HasTriples}
 
