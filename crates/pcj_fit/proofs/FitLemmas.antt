@@ -1,5 +1,5 @@
 -- Every move keeps the rows fit.
-use Rattle.std.proofs.Common.{◌≡◌, ◌≢◌, inl, inr, ◌<◌, ℕ, suc, Bool, true, false, nat_lt, List, [], ◌∷◌, Option, Some, None, refl, ap, sym, subst, ◌∙◌, arith, if◌then◌else◌}
+use Rattle.std.proofs.Common.{◌≡◌, ◌≢◌, inl, inr, ◌<◌, ◌≤◌, ℕ, suc, Bool, true, false, nat_lt, List, [], ◌∷◌, Option, Some, None, refl, ap, sym, subst, ◌∙◌, arith, if◌then◌else◌}
 use Rattle.std.proofs.lemmas.Bool.{and_parts, ltb-true}
 use Rattle.std.specs.List.{All, Contains}
 use Rattle.std.specs.Option.{option_map}
@@ -43,11 +43,13 @@ use Rattle.pcj_choices.specs.UnderChoice.{is_primary_commit}
 use Rattle.pcj_choices.proofs.ClaimLemmas.{IsKept, WritesOnly, reads_the_same}
 use Rattle.pcj_fit.specs.Fit.{AtomicRows, Fit, NumbersApart}
 use Rattle.pcj_fit.specs.Origins.{IsAfter, TasksHaveOrigins}
+use Rattle.pcj_fit.specs.OwnRows.{AreOwnFrom, IsOwnRow}
 use Rattle.pcj_fit.specs.Plans.{HasPlan, IsRegisterPlan, absent_of, load_writes}
 use Rattle.pcj_fit.specs.Registrations.{RegistrationsStand}
 use Rattle.pcj_fit.specs.Rows.{Decodes, HoldsVersions, IsDecoded, IsLockOf, IsVersionOf}
 use Rattle.pcj_fit.specs.Sound.{IsClockPlain}
 use Rattle.pcj_fit.proofs.NumberLemmas.{apart_committed, apart_kept, apart_locked}
+use Rattle.pcj_fit.proofs.OwnRowLemmas.{own_is_empty, own_is_kept, own_replaced}
 use Rattle.pcj_fit.proofs.OldLemmas.{IsOld, written_is_old}
 use Rattle.pcj_fit.proofs.RegisterLemmas.{Part, as_backfill, as_pattern, name_written, own_written, part_name, part_valid}
 use Rattle.pcj_fit.proofs.RegisteredLemmas.{Registers, SameRegistrations, after_at_once, after_same, backfill_joins, registrations_join, registrations_stay, same_reading}
@@ -170,17 +172,16 @@ nothing_leaves writes commit before after none whole = record {
     free : (key : Key) → write_at writes key ≡ None
     free key = ap (λ ws. write_at ws key) none
 
--- A registration has read that nothing has its name. Its rows are locked since, and whatever stands in them has an earlier
--- commit than its number.
+-- A registration has read that nothing has its name, and its rows are locked since. Its own row has nothing but what it
+-- has written itself.
 pub plan_registers : (start : ℕ) (answers : List Answer) (writes : List Write) (name : List ℕ) (tree : Tree) (commit : ℕ) (before after : Rows) → IsRegisterPlan start answers writes name tree → StandsWhole writes commit before after →
-    ((key : Key) (write : Write) → write_at writes key ≡ Some write → IsOld before start key) → Reads before start answers → start < commit → RegistrationsStand before → Registers before after start name tree commit
-plan_registers start answers writes name tree commit before after plan whole old reads later stand = record {
+    ((key : Key) (write : Write) → write_at writes key ≡ Some write → IsOld before start key) → Reads before start answers → (IsRegistration start → IsOwnRow start (before (key_of (row.Registration start)))) → Registers before after start name tree commit
+plan_registers start answers writes name tree commit before after plan whole old reads own = record {
   number = plan.number;
   of_query = plan.of_query;
-  later = later;
   whole = subst (λ ws. StandsWhole ws commit before after) plan.writes_are whole;
   unnamed = sym (old (key_of (row.Name name)) _ (ap (λ ws. write_at ws (key_of (row.Name name))) plan.writes_are ∙ name_written start name tree)).seen_then ∙ unseen;
-  new = by (standing before (key_of (row.Registration start))) refl;
+  new = ap (λ versions. put_of (newest versions)) (its.read ∙ own_is_empty start (before (key_of (row.Registration start))).versions (own plan.number).versions its.unwritten);
 }
   where
     unseen : seen before (key_of (row.Name name)) start ≡ None
@@ -191,20 +192,16 @@ plan_registers start answers writes name tree commit before after plan whole old
         none None e = refl
         none (Some put) e = absurd cc
 
-    by : (found : Option Put) → standing before (key_of (row.Registration start)) ≡ found → found ≡ None
-    by None e = refl
-    by (Some put) e =
-        let earlier = (old (key_of (row.Registration start)) _ (ap (λ ws. write_at ws (key_of (row.Registration start))) plan.writes_are ∙ own_written start name tree)).before put e in
-        let was = (stand.registrations start put plan.number e).2.later in
-        absurd (omega (arith, earlier, was))
+    its : IsOld before start (key_of (row.Registration start))
+    its = old (key_of (row.Registration start)) _ (ap (λ ws. write_at ws (key_of (row.Registration start))) plan.writes_are ∙ own_written start name tree)
 
 registered_whole : (start : ℕ) (answers : List Answer) (writes : List Write) (commit : ℕ) (before after : Rows) → HasPlan start answers writes → StandsWhole writes commit before after →
-    ((key : Key) (write : Write) → write_at writes key ≡ Some write → IsOld before start key) → Reads before start answers → start < commit → RegistrationsStand before → RegistrationsStand after
-registered_whole start answers writes commit before after (inl none) whole old reads later stand = registrations_stay before after (nothing_leaves writes commit before after none whole) stand
-registered_whole start answers writes commit before after (inr (inl load)) whole old reads later stand =
+    ((key : Key) (write : Write) → write_at writes key ≡ Some write → IsOld before start key) → Reads before start answers → (IsRegistration start → IsOwnRow start (before (key_of (row.Registration start)))) → RegistrationsStand before → RegistrationsStand after
+registered_whole start answers writes commit before after (inl none) whole old reads own stand = registrations_stay before after (nothing_leaves writes commit before after none whole) stand
+registered_whole start answers writes commit before after (inr (inl load)) whole old reads own stand =
     registrations_stay before after (load_leaves (absent_of load.0 answers) commit before after (absent_all IsTriple load.0 answers load.1.load.valid) (subst (λ ws. StandsWhole ws commit before after) load.1.writes_are whole)) stand
-registered_whole start answers writes commit before after (inr (inr register)) whole old reads later stand =
-    registrations_join before after start register.0 register.1 commit (plan_registers start answers writes register.0 register.1 commit before after register.2 whole old reads later stand) stand
+registered_whole start answers writes commit before after (inr (inr register)) whole old reads own stand =
+    registrations_join before after start register.0 register.1 commit (plan_registers start answers writes register.0 register.1 commit before after register.2 whole old reads own) stand
 
 -- a triple's task is written with the triple
 triple_origins : (start : ℕ) (answers : List Answer) (writes : List Write) (commit : ℕ) (before after : Rows) → HasPlan start answers writes → StandsWhole writes commit before after → TasksHaveOrigins before →
@@ -221,8 +218,8 @@ triple_origins start answers writes commit before after plan whole origins tripl
         (stands_of writes commit before after triple as_task false whole e) (stands_of writes commit before after triple (by_order Spo) false whole e') (origins.triples triple valid)
 
 origins_whole : (start : ℕ) (answers : List Answer) (writes : List Write) (commit : ℕ) (before after : Rows) → HasPlan start answers writes → StandsWhole writes commit before after →
-    ((key : Key) (write : Write) → write_at writes key ≡ Some write → IsOld before start key) → Reads before start answers → start < commit → RegistrationsStand before → TasksHaveOrigins before → TasksHaveOrigins after
-origins_whole start answers writes commit before after plan whole old reads later stand origins = record {
+    ((key : Key) (write : Write) → write_at writes key ≡ Some write → IsOld before start key) → Reads before start answers → (IsRegistration start → IsOwnRow start (before (key_of (row.Registration start)))) → RegistrationsStand before → TasksHaveOrigins before → TasksHaveOrigins after
+origins_whole start answers writes commit before after plan whole old reads own stand origins = record {
   triples = triple_origins start answers writes commit before after plan whole origins;
   backfills = by plan;
 }
@@ -235,7 +232,7 @@ origins_whole start answers writes commit before after plan whole old reads late
     by (inl none) = stay (nothing_leaves writes commit before after none whole)
     by (inr (inl load)) = stay (load_leaves (absent_of load.0 answers) commit before after (absent_all IsTriple load.0 answers load.1.load.valid) (subst (λ ws. StandsWhole ws commit before after) load.1.writes_are whole))
     by (inr (inr register)) = λ registration node number small.
-        backfill_joins before after start register.0 register.1 commit registration node (plan_registers start answers writes register.0 register.1 commit before after register.2 whole old reads later stand) number small origins
+        backfill_joins before after start register.0 register.1 commit registration node (plan_registers start answers writes register.0 register.1 commit before after register.2 whole old reads own) number small origins
 
 -- ---- each move
 
@@ -368,17 +365,17 @@ others_fit number rows actor others (WritePlain key plain) other plan consistent
 
 -- ---- the last commit
 
-last_fit : (number : ℕ) (rows : Rows) (actor : Actor) (others : List Actor) (write : Write) (commit : ℕ) → HasPlan actor.start actor.answers actor.transaction.writes → IsLast number rows actor others write commit →
-    Fit number rows → Fit (suc commit) (acted rows write.key (commit_act write actor.start commit))
-last_fit number rows actor others write commit plan last fit = record {
+last_fit : (low number : ℕ) (rows : Rows) (actor : Actor) (others : List Actor) (write : Write) (commit : ℕ) → HasPlan actor.start actor.answers actor.transaction.writes → IsLast number rows actor others write commit →
+    low ≤ actor.start → AreOwnFrom low rows → Fit number rows → Fit (suc commit) (acted rows write.key (commit_act write actor.start commit))
+last_fit low number rows actor others write commit plan last le own fit = record {
   decodes = decodes_replaced (suc commit) rows write.key lock commit (decodes_later number (suc commit) rows (omega arith) fit.decodes) locked (omega arith);
   times = after.times;
   named = after.named;
   once = after.once;
   apart = apart_committed number rows write.key lock commit last.draws.granted last.consistent.below locked none last.consistent.own.0.start fit.times.first fit.apart;
   atomic = atomic_whole actor.start actor.answers actor.transaction.writes commit rows _ plan whole fit.atomic;
-  registered = registered_whole actor.start actor.answers actor.transaction.writes commit rows _ plan whole (λ key write is. old key write is) last.consistent.sound.0.reads (consistent.sound.0.transacts.later commit refl) fit.registered;
-  origins = origins_whole actor.start actor.answers actor.transaction.writes commit rows _ plan whole (λ key write is. old key write is) last.consistent.sound.0.reads (consistent.sound.0.transacts.later commit refl) fit.registered fit.origins;
+  registered = registered_whole actor.start actor.answers actor.transaction.writes commit rows _ plan whole (λ key write is. old key write is) last.consistent.sound.0.reads (λ numbered. own actor.start le numbered) fit.registered;
+  origins = origins_whole actor.start actor.answers actor.transaction.writes commit rows _ plan whole (λ key write is. old key write is) last.consistent.sound.0.reads (λ numbered. own actor.start le numbered) fit.registered fit.origins;
 }
   where
     drawn : Actor
@@ -414,8 +411,22 @@ last_fit number rows actor others write commit plan last fit = record {
     none : commit_of actor.start (rows write.key).versions ≡ None
     none = ap (λ t. option_map (λ v. v.commit) t.version) at.was
 
-pub fit_is_kept : IsKept Fit HasPlan IsClockPlain
-fit_is_kept = record {
-  others = λ number rows actor others move other plan consistent may plains fit. others_fit number rows actor others move other plan consistent may plains fit;
-  last = λ number rows actor others write commit plan last fit. last_fit number rows actor others write commit plan last fit;
+-- fit rows of which those of later registrations are their own
+abbrev pub FitFrom : ℕ → ℕ → Rows → Type 0
+FitFrom low number rows = Fit number rows × AreOwnFrom low rows
+
+abbrev pub PlanFrom : ℕ → ℕ → List Answer → List Write → Type 0
+PlanFrom low start answers writes = HasPlan start answers writes × (low ≤ start)
+
+pub fit_is_kept : (low : ℕ) → IsKept (FitFrom low) (PlanFrom low) IsClockPlain
+fit_is_kept low = record {
+  others = λ number rows actor others move other plan consistent may plains fit. (
+    others_fit number rows actor others move other plan.0 consistent may plains fit.0,
+    own_is_kept low number rows actor others move plan.0 consistent may fit.1,
+  );
+  last = λ number rows actor others write commit plan last fit. (
+    last_fit low number rows actor others write commit plan.0 last plan.1 fit.1 fit.0,
+    let there = lock_there (rows write.key).lock actor.start (and_parts _ _ last.allowed).0 in
+        own_replaced low rows write.key (version_of (lock_of write actor.start write.key) commit) there.0 there.1 there.2 fit.1,
+  );
 }

@@ -5,6 +5,7 @@ pub mod WriteLemmas
 pub mod RegisterLemmas
 pub mod RegisteredLemmas
 pub mod PlanLemmas
+pub mod OwnRowLemmas
 pub mod FitLemmas
 pub mod SoundLemmas
 pub mod PutLemmas

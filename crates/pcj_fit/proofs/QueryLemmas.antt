@@ -218,7 +218,7 @@ its_registration : (number : ℕ) (rows : Rows) (actor : Actor) (others : List A
 its_registration number rows actor others write commit name tree plan may sound =
     plan_registers actor.start actor.answers actor.transaction.writes name tree commit rows (rows_after (CommitPrimary write commit) actor rows) plan
     (one_move_changes number rows actor others (CommitPrimary write commit) may sound.consistent) (λ key other is. old key other is) sound.consistent.sound.0.reads
-    (sound.consistent.sound.0.transacts.later commit may.drawn) (sound_is_fit number rows (actor ∷ others) sound).registered
+    (λ numbered. sound.own actor.start sound.later.0 numbered)
   where
     at : AtPrimary rows actor.start actor.transaction write commit
     at = at_primary rows actor.start actor.transaction write (its_first rows actor write commit may).0 commit sound.consistent.times sound.consistent.sound.0.transacts (its_first rows actor write commit may).1 may.drawn may.undone may.allowed

@@ -1,5 +1,5 @@
 -- What stands of registrations, and of the rows that tasks were made for, after a commit.
-use Rattle.std.proofs.Common.{◌≡◌, ◌≢◌, ◌⊎◌, inl, inr, ◌<◌, ℕ, List, [], Option, Some, None, refl, ap, sym, subst, ◌∙◌, arith}
+use Rattle.std.proofs.Common.{◌≡◌, ◌≢◌, ◌⊎◌, inl, inr, ℕ, List, [], Option, Some, None, refl, ap, sym, subst, ◌∙◌, arith}
 use Rattle.std.specs.Option.{option_map}
 use Rattle.pcj_term.proofs.ByteLemmas.{bytes_cases}
 use Rattle.pcj_table.specs.Row.{newest}
@@ -40,7 +40,6 @@ registered_same : (before after : Rows) (registration : ℕ) (name : List ℕ) (
 registered_same before after registration name tree commit same is = record {
   number = is.number;
   of_query = is.of_query;
-  later = is.later;
   named = same.names name ∙ is.named;
   stands = same.registrations registration is.number ∙ is.stands;
   patterns = λ node small. same.parts as_pattern registration node is.number small ∙ is.patterns node small;
@@ -69,7 +68,6 @@ after_at_once task origin value other commit e e' = subst (λ t. IsAfter t origi
 pub record Registers (before after : Rows) (start : ℕ) (name : List ℕ) (tree : Tree) (commit : ℕ) : Type 0 where
   pub number : IsRegistration start
   pub of_query : IsQueryTree tree
-  pub later : start < commit
   pub whole : StandsWhole (registration_writes start name tree) commit before after
   pub unnamed : standing before (key_of (row.Name name)) ≡ None
   pub new : standing before (key_of (row.Registration start)) ≡ None
@@ -109,7 +107,6 @@ pub new_stands : (before after : Rows) (start : ℕ) (name : List ℕ) (tree : T
 new_stands before after start name tree commit is stand = record {
   number = is.number;
   of_query = is.of_query;
-  later = is.later;
   named = (is.whole.written (key_of (row.Name name)) _ (name_written start name tree)).stands;
   stands = (is.whole.written (key_of (row.Registration start)) _ (own_written start name tree)).stands;
   patterns = λ node small. by node small (pattern_at tree node) refl;
@@ -131,7 +128,6 @@ pub still_stands : (before after : Rows) (start : ℕ) (name : List ℕ) (tree :
 still_stands before after start name tree commit registration other its at is was = record {
   number = was.number;
   of_query = was.of_query;
-  later = was.later;
   named = other_names before after start name tree commit other is names_differ ∙ was.named;
   stands = other_registrations before after start name tree commit registration is was.number numbers_differ ∙ was.stands;
   patterns = λ node small. other_parts before after start name tree commit as_pattern registration node is was.number small numbers_differ ∙ was.patterns node small;

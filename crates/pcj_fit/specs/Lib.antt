@@ -7,6 +7,7 @@ pub mod Fit
 pub mod Triples
 pub mod Queries
 pub mod Plans
+pub mod OwnRows
 pub mod Sound
 pub mod Laws
 pub mod QueryLaws

@@ -1,5 +1,5 @@
 -- The rows of a registration: that of its name, its own, and one for each pattern in the tree of its query.
-use Rattle.std.specs.Prelude.{◌≡◌, ◌<◌, ℕ, List, [], ◌∷◌, Option, Some, None}
+use Rattle.std.specs.Prelude.{◌≡◌, ℕ, List, [], ◌∷◌, Option, Some, None}
 use Rattle.std.specs.Option.{option_map}
 use Rattle.pcj_key.specs.Key as parts
 use Rattle.pcj_encode.specs.declared.key_name.KeyName.TheVariants as row
@@ -42,12 +42,11 @@ pattern_at tree node = value_of (numbered tree.nodes node)
 
 -- ---- what stands
 
--- All rows of a registration stand with one commit, which is above its number: that of its name, its own, one for each
--- node that is a pattern, and none for any other node.
+-- All rows of a registration stand with one commit: that of its name, its own, one for each node that is a pattern, and
+-- none for any other node.
 pub record IsRegistered (rows : Rows) (registration : ℕ) (name : List ℕ) (tree : Tree) (commit : ℕ) : Type 0 where
   pub number : IsRegistration registration
   pub of_query : IsQueryTree tree
-  pub later : registration < commit
   pub named : standing rows (key_of (row.Name name)) ≡ Some (registration_part registration, commit)
   pub stands : standing rows (key_of (row.Registration registration)) ≡ Some (registration_value name tree, commit)
   pub patterns : (node : ℕ) → IsNode node → standing rows (key_of (row.Pattern registration node)) ≡ option_map (λ value. (value, commit)) (pattern_at tree node)
