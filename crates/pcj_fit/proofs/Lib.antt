@@ -13,3 +13,4 @@ pub mod TripleLemmas
 pub mod QueryLemmas
 pub mod StepLemmas
 pub mod TableTriples
+pub mod TableQueries

@@ -42,11 +42,11 @@ use Rattle.pcj_fit.proofs.SoundLemmas.{sound_is_fit}
 
 -- ---- lists of registrations
 
-each_of : {X : Type 0} (P : X → Type 0) (xs : List X) → ((x : X) → Contains xs x → P x) → All P xs
+pub each_of : {X : Type 0} (P : X → Type 0) (xs : List X) → ((x : X) → Contains xs x → P x) → All P xs
 each_of P [] each = All-nil P
 each_of P (x ∷ xs) each = All-cons P x xs (each x (first_there x xs)) (each_of P xs (λ y there. each y (later_there x xs y there)))
 
-of_each : {X : Type 0} (P : X → Type 0) (xs : List X) (x : X) → All P xs → Contains xs x → P x
+pub of_each : {X : Type 0} (P : X → Type 0) (xs : List X) (x : X) → All P xs → Contains xs x → P x
 of_each P [] x all there = absurd (nothing_in x there)
 of_each P (first ∷ xs) x all there = by (first_or_later first xs x there) (of_each P xs x (All-tail P first xs all))
   where
@@ -54,7 +54,7 @@ of_each P (first ∷ xs) x all there = by (first_or_later first xs x there) (of_
     by (inl same) rest = subst P same (All-head P first xs all)
     by (inr later) rest = rest later
 
-all_added : (P : Registration → Type 0) (new : Registration) (known : List Registration) → P new → All P known → All P (added new known)
+pub all_added : (P : Registration → Type 0) (new : Registration) (known : List Registration) → P new → All P known → All P (added new known)
 all_added P new [] is all = All-cons P new [] is all
 all_added P new (first ∷ known) is all = by (nat_lt new.number first.number) (all_added P new known is (All-tail P first known all))
   where
@@ -62,7 +62,7 @@ all_added P new (first ∷ known) is all = by (nat_lt new.number first.number) (
     by true rest = All-cons P new (first ∷ known) is all
     by false rest = All-cons P first (added new known) (All-head P first known all) rest
 
-in_added : (new : Registration) (known : List Registration) (other : Registration) → Contains (added new known) other → (new ≡ other) ⊎ Contains known other
+pub in_added : (new : Registration) (known : List Registration) (other : Registration) → Contains (added new known) other → (new ≡ other) ⊎ Contains known other
 in_added new [] other there = first_or_later new [] other there
 in_added new (first ∷ known) other there = by (nat_lt new.number first.number) there (in_added new known other)
   where
@@ -78,7 +78,7 @@ in_added new (first ∷ known) other there = by (nat_lt new.number first.number)
             either (inl same) = inl same
             either (inr later) = inr (later_there first known other later)
 
-new_added : (new : Registration) (known : List Registration) → Contains (added new known) new
+pub new_added : (new : Registration) (known : List Registration) → Contains (added new known) new
 new_added new [] = first_there new []
 new_added new (first ∷ known) = by (nat_lt new.number first.number) (new_added new known)
   where
@@ -86,7 +86,7 @@ new_added new (first ∷ known) = by (nat_lt new.number first.number) (new_added
     by true rest = first_there new (first ∷ known)
     by false rest = later_there first (added new known) new rest
 
-known_added : (new : Registration) (known : List Registration) (other : Registration) → Contains known other → Contains (added new known) other
+pub known_added : (new : Registration) (known : List Registration) (other : Registration) → Contains known other → Contains (added new known) other
 known_added new [] other there = absurd (nothing_in other there)
 known_added new (first ∷ known) other there = by (nat_lt new.number first.number) (known_added new known other)
   where
@@ -98,7 +98,7 @@ known_added new (first ∷ known) other there = by (nat_lt new.number first.numb
         or (inl same) = subst (Contains (first ∷ added new known)) same (first_there first (added new known))
         or (inr later) = later_there first (added new known) other (rest later)
 
-ascend_added : (new : Registration) (known : List Registration) → Ascend known → All (λ (other : Registration). other.number ≢ new.number) known → Ascend (added new known)
+pub ascend_added : (new : Registration) (known : List Registration) → Ascend known → All (λ (other : Registration). other.number ≢ new.number) known → Ascend (added new known)
 ascend_added new [] ascend apart = (All-nil (λ (later : Registration). new.number < later.number), tt)
 ascend_added new (first ∷ known) ascend apart = by (nat_lt new.number first.number) refl (ascend_added new known ascend.1 (All-tail (λ (other : Registration). other.number ≢ new.number) first known apart))
   where
@@ -120,20 +120,20 @@ storable : (tree : Tree) → IsQueryTree tree → IsStorable tree
 storable tree is = can_be_stored is.query tree is.storable is.is
 
 -- a value is that of one name and one tree
-one_value : (name other : List ℕ) (tree its : Tree) → IsQueryTree tree → IsQueryTree its → registration_value name tree ≡ registration_value other its → (name ≡ other) × (tree ≡ its)
+pub one_value : (name other : List ℕ) (tree its : Tree) → IsQueryTree tree → IsQueryTree its → registration_value name tree ≡ registration_value other its → (name ≡ other) × (tree ≡ its)
 one_value name other tree its is is' e =
     let parts : name ∷ stored_tree tree ∷ [] ≡ other ∷ stored_tree its ∷ [] = injective (name ∷ stored_tree tree ∷ []) (other ∷ stored_tree its ∷ []) e in
     let stored : stored_tree tree ≡ stored_tree its = cc in
     ((cc), stores_one_tree tree its (storable tree is) (storable its is') stored)
 
-one_put : (found : Option Put) (value other : List ℕ) (commit at : ℕ) → found ≡ Some (value, commit) → found ≡ Some (other, at) → value ≡ other
+pub one_put : (found : Option Put) (value other : List ℕ) (commit at : ℕ) → found ≡ Some (value, commit) → found ≡ Some (other, at) → value ≡ other
 one_put found value other commit at e e' = ap value_or (sym e ∙ e')
   where
     value_or : Option Put → List ℕ
     value_or None = []
     value_or (Some put) = put.0
 
-same_registration : (one other : Registration) → one.name ≡ other.name → one.number ≡ other.number → one.tree ≡ other.tree → one ≡ other
+pub same_registration : (one other : Registration) → one.name ≡ other.name → one.number ≡ other.number → one.tree ≡ other.tree → one ≡ other
 same_registration one other names numbers trees =
     ap (λ name. let r : Registration = record { name = name; number = one.number; tree = one.tree } in r) names
     ∙ ap (λ number. let r : Registration = record { name = other.name; number = number; tree = one.tree } in r) numbers

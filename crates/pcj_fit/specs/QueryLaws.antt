@@ -2,6 +2,7 @@
 use Rattle.std.specs.Prelude.{◌≡◌, ◌≢◌, ℕ, true, false, List, ◌∷◌, Some}
 use Rattle.std.specs.List.{All, Contains}
 use Rattle.pcj_term.specs.declared.triple.Triple.{Triple}
+use Rattle.pcj_table.specs.Table.{Table, row_at}
 use Rattle.pcj_table.specs.declared.write.Write.{Write}
 use Rattle.pcj_encode.specs.declared.key_name.KeyName.TheVariants as row
 use Rattle.pcj_encode.specs.Name.{key_of}
@@ -17,6 +18,16 @@ use Rattle.pcj_fit.specs.Plans.{IsLoadPlan, IsRegisterPlan}
 use Rattle.pcj_fit.specs.Queries.{HasQueries, Registration, added}
 use Rattle.pcj_fit.specs.Sound.{Sound}
 use Rattle.pcj_fit.specs.Triples.{HasTriples}
+
+-- ---- tables
+
+-- each fit table has a list of its queries
+abbrev pub TablesHaveQueries : Type 0
+TablesHaveQueries = (number : ℕ) (table : Table) → Fit number (row_at table) → (known : List Registration) × HasQueries (row_at table) known
+
+-- and one alone
+abbrev pub QueriesAreOne : Type 0
+QueriesAreOne = (rows : Rows) (known others : List Registration) → HasQueries rows known → HasQueries rows others → known ≡ others
 
 -- ---- names
 

@@ -4,7 +4,9 @@
 mod queries;
 mod sound;
 
-pub use queries::{names_are_distinct, registrations_add_their_queries, steps_add_queries};
+pub use queries::{
+    names_are_distinct, registrations_add_their_queries, steps_add_queries, tables_have_queries,
+};
 pub use sound::{
     actors_come_and_go, fit_tables_are_sound, loads_add_their_triples, moves_keep_all_sound,
     steps_keep_all_sound,

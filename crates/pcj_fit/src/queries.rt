@@ -1,4 +1,10 @@
-ghost use Rattle.pcj_fit.specs.QueryLaws.{LoadStepLeavesQueries, LoadsLeaveQueries, MovesLeaveQueries, NamesAreDistinct, ReadNamesAreKnown, RegisterStepLeavesTriples, RegistrationsAddTheirs, RegistrationsLeaveTriples, StepAddsQuery, StepLeavesQueries};
+ghost use Rattle.pcj_fit.specs.QueryLaws.{LoadStepLeavesQueries, LoadsLeaveQueries, MovesLeaveQueries, NamesAreDistinct, QueriesAreOne, ReadNamesAreKnown, RegisterStepLeavesTriples, RegistrationsAddTheirs, RegistrationsLeaveTriples, StepAddsQuery, StepLeavesQueries, TablesHaveQueries};
+
+/// Each fit table has one list of its queries.
+pub fn tables_have_queries()
+    ensures some { TablesHaveQueries }
+    ensures one { QueriesAreOne }
+{}
 
 /// No two registrations have one name, and a name that was read is that of one of them.
 pub fn names_are_distinct()
