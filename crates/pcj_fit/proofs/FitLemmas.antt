@@ -20,7 +20,8 @@ use Rattle.pcj_encode.specs.declared.key_name.KeyName.TheVariants as row
 use Rattle.pcj_encode.specs.Name.{IsNode, IsRegistration, IsTriple, key_of}
 use Rattle.pcj_tree.specs.declared.tree.Tree.{Tree}
 use Rattle.pcj_rowtables.specs.Rows.{triple_key}
-use Rattle.pcj_mvcc.proofs.Laws.{lock_there, replaced, rolled_back}
+use Rattle.pcj_mvcc.proofs.Laws.{lock_there, replaced, rolled_back, same_standing}
+use Rattle.pcj_mvcc.specs.Laws.{SameStanding}
 use Rattle.pcj_mvcc.proofs.Versions.{version_of_start}
 use Rattle.pcj_mvcc.specs.Acts.{commit_act, lock_of, roll_back_act, version_of}
 use Rattle.pcj_mvcc.specs.Reading.{Put, Rows, acted, allows, commit_of, committed, put, put_of, seen, standing, versions_read}
@@ -42,7 +43,7 @@ use Rattle.pcj_choices.specs.ChoiceLaws.{IsLast}
 use Rattle.pcj_choices.specs.UnderChoice.{is_primary_commit}
 use Rattle.pcj_choices.proofs.ClaimLemmas.{IsKept, WritesOnly, reads_the_same}
 use Rattle.pcj_fit.specs.Fit.{AtomicRows, Fit, NumbersApart}
-use Rattle.pcj_fit.specs.Origins.{IsAfter, TasksHaveOrigins}
+use Rattle.pcj_fit.specs.Origins.{HasOrigin, TasksHaveOrigins}
 use Rattle.pcj_fit.specs.OwnRows.{AreOwnFrom, IsOwnRow}
 use Rattle.pcj_fit.specs.Plans.{HasPlan, IsRegisterPlan, absent_of, load_writes}
 use Rattle.pcj_fit.specs.Registrations.{RegistrationsStand}
@@ -52,7 +53,7 @@ use Rattle.pcj_fit.proofs.NumberLemmas.{apart_committed, apart_kept, apart_locke
 use Rattle.pcj_fit.proofs.OwnRowLemmas.{own_is_empty, own_is_kept, own_replaced}
 use Rattle.pcj_fit.proofs.OldLemmas.{IsOld, written_is_old}
 use Rattle.pcj_fit.proofs.RegisterLemmas.{Part, as_backfill, as_pattern, name_written, own_written, part_name, part_valid}
-use Rattle.pcj_fit.proofs.RegisteredLemmas.{Registers, SameRegistrations, after_at_once, after_same, backfill_joins, registrations_join, registrations_stay, same_reading}
+use Rattle.pcj_fit.proofs.RegisteredLemmas.{Registers, SameRegistrations, backfill_joins, origin_stays, origin_written, registrations_join, registrations_stay, same_reading}
 use Rattle.pcj_fit.proofs.WriteLemmas.{CanWrite, none_written}
 use Rattle.pcj_fit.proofs.PlanLemmas.{Mark, WritesWhole, absent_all, as_task, by_order, load_names, mark_name, can_write, mark_key, writes_whole, written_by}
 use Rattle.pcj_fit.proofs.RowLemmas.{all_with_version, decodes_later, decodes_put, from_versions, locked_row, row_of_name, to_versions}
@@ -130,13 +131,13 @@ atomic_whole start answers writes commit before after plan whole atomic = record
 
 origins_same : (before after : Rows) → versions_read after ≡ versions_read before → TasksHaveOrigins before → TasksHaveOrigins after
 origins_same before after same origins = record {
-  triples = λ triple valid. after_same (standing before (mark_key as_task triple)) _ (standing before (mark_key (by_order Spo) triple)) _ (stays (mark_key as_task triple)) (stays (mark_key (by_order Spo) triple)) (origins.triples triple valid);
-  backfills = λ registration node number small. after_same (standing before (key_of (part_name as_backfill registration node))) _ (standing before (key_of (part_name as_pattern registration node))) _
+  triples = λ triple valid. origin_stays before after (mark_key as_task triple) (mark_key (by_order Spo) triple) (stays (mark_key as_task triple)) (stays (mark_key (by_order Spo) triple)) (origins.triples triple valid);
+  backfills = λ registration node number small. origin_stays before after (key_of (part_name as_backfill registration node)) (key_of (part_name as_pattern registration node))
       (stays (key_of (part_name as_backfill registration node))) (stays (key_of (part_name as_pattern registration node))) (origins.backfills registration node number small);
 }
   where
-    stays : (key : Key) → standing after key ≡ standing before key
-    stays key = ap (λ (read : Key → List Version). put_of (newest (read key))) same
+    stays : (key : Key) → SameStanding before after key
+    stays key = same_standing before after key (ap (λ (read : Key → List Version). read key) same)
 
 -- a commit of something else leaves the rows of registrations
 pub load_leaves : (triples : List Triple) (commit : ℕ) (before after : Rows) → All IsTriple triples → StandsWhole (load_writes triples) commit before after → SameRegistrations before after
@@ -144,8 +145,8 @@ load_leaves triples commit before after valid whole = record {
   names = λ name. (whole.others (key_of (row.Name name)) (none_written (load_writes triples) (row.Name name) tt (load_names (λ n. n ≢ row.Name name) triples valid (λ mark triple. not_name name mark triple)))).stands;
   registrations = λ registration number. (whole.others (key_of (row.Registration registration)) (none_written (load_writes triples) (row.Registration registration) number
       (load_names (λ n. n ≢ row.Registration registration) triples valid (λ mark triple. not_registration registration mark triple)))).stands;
-  parts = λ part registration node number small. (whole.others (key_of (part_name part registration node)) (none_written (load_writes triples) (part_name part registration node) (part_valid part registration node number small)
-      (load_names (λ n. n ≢ part_name part registration node) triples valid (λ mark triple. not_part part registration node mark triple)))).stands;
+  parts = λ part registration node number small. whole.others (key_of (part_name part registration node)) (none_written (load_writes triples) (part_name part registration node) (part_valid part registration node number small)
+      (load_names (λ n. n ≢ part_name part registration node) triples valid (λ mark triple. not_part part registration node mark triple)));
 }
   where
     not_name : (name : List ℕ) (mark : Mark) (triple : Triple) → mark_name mark triple ≢ row.Name name
@@ -166,7 +167,7 @@ nothing_leaves : (writes : List Write) (commit : ℕ) (before after : Rows) → 
 nothing_leaves writes commit before after none whole = record {
   names = λ name. (whole.others (key_of (row.Name name)) (free (key_of (row.Name name)))).stands;
   registrations = λ registration number. (whole.others (key_of (row.Registration registration)) (free (key_of (row.Registration registration)))).stands;
-  parts = λ part registration node number small. (whole.others (key_of (part_name part registration node)) (free (key_of (part_name part registration node)))).stands;
+  parts = λ part registration node number small. whole.others (key_of (part_name part registration node)) (free (key_of (part_name part registration node)));
 }
   where
     free : (key : Key) → write_at writes key ≡ None
@@ -205,17 +206,18 @@ registered_whole start answers writes commit before after (inr (inr register)) w
 
 -- a triple's task is written with the triple
 triple_origins : (start : ℕ) (answers : List Answer) (writes : List Write) (commit : ℕ) (before after : Rows) → HasPlan start answers writes → StandsWhole writes commit before after → TasksHaveOrigins before →
-    (triple : Triple) → IsTriple triple → IsAfter (standing after (mark_key as_task triple)) (standing after (mark_key (by_order Spo) triple))
+    (triple : Triple) → IsTriple triple → HasOrigin after (mark_key as_task triple) (mark_key (by_order Spo) triple)
 triple_origins start answers writes commit before after plan whole origins triple valid = by its.is (its.each as_task) (its.each (by_order Spo))
   where
     its : WritesWhole writes triple
     its = writes_whole start answers writes triple plan valid
 
     by : (b : Bool) → write_at writes (mark_key as_task triple) ≡ written_by b (mark_key as_task triple) → write_at writes (mark_key (by_order Spo) triple) ≡ written_by b (mark_key (by_order Spo) triple) →
-        IsAfter (standing after (mark_key as_task triple)) (standing after (mark_key (by_order Spo) triple))
-    by true e e' = after_at_once _ _ [] [] commit (stands_of writes commit before after triple as_task true whole e) (stands_of writes commit before after triple (by_order Spo) true whole e')
-    by false e e' = after_same (standing before (mark_key as_task triple)) _ (standing before (mark_key (by_order Spo) triple)) _
-        (stands_of writes commit before after triple as_task false whole e) (stands_of writes commit before after triple (by_order Spo) false whole e') (origins.triples triple valid)
+        HasOrigin after (mark_key as_task triple) (mark_key (by_order Spo) triple)
+    by true e e' = origin_written before after (mark_key as_task triple) (mark_key (by_order Spo) triple) [] [] commit whole.earlier
+        (whole.written (mark_key as_task triple) _ e) (whole.written (mark_key (by_order Spo) triple) _ e') (origins.triples triple valid)
+    by false e e' = origin_stays before after (mark_key as_task triple) (mark_key (by_order Spo) triple)
+        (whole.others (mark_key as_task triple) e) (whole.others (mark_key (by_order Spo) triple) e') (origins.triples triple valid)
 
 origins_whole : (start : ℕ) (answers : List Answer) (writes : List Write) (commit : ℕ) (before after : Rows) → HasPlan start answers writes → StandsWhole writes commit before after →
     ((key : Key) (write : Write) → write_at writes key ≡ Some write → IsOld before start key) → Reads before start answers → (IsRegistration start → IsOwnRow start (before (key_of (row.Registration start)))) → RegistrationsStand before → TasksHaveOrigins before → TasksHaveOrigins after
@@ -224,11 +226,11 @@ origins_whole start answers writes commit before after plan whole old reads own 
   backfills = by plan;
 }
   where
-    stay : SameRegistrations before after → (registration node : ℕ) → IsRegistration registration → IsNode node → IsAfter (standing after (key_of (row.Task (task.Backfill registration node)))) (standing after (key_of (row.Pattern registration node)))
-    stay same registration node number small = after_same (standing before (key_of (part_name as_backfill registration node))) _ (standing before (key_of (part_name as_pattern registration node))) _
+    stay : SameRegistrations before after → (registration node : ℕ) → IsRegistration registration → IsNode node → HasOrigin after (key_of (row.Task (task.Backfill registration node))) (key_of (row.Pattern registration node))
+    stay same registration node number small = origin_stays before after (key_of (part_name as_backfill registration node)) (key_of (part_name as_pattern registration node))
         (same.parts as_backfill registration node number small) (same.parts as_pattern registration node number small) (origins.backfills registration node number small)
 
-    by : HasPlan start answers writes → (registration node : ℕ) → IsRegistration registration → IsNode node → IsAfter (standing after (key_of (row.Task (task.Backfill registration node)))) (standing after (key_of (row.Pattern registration node)))
+    by : HasPlan start answers writes → (registration node : ℕ) → IsRegistration registration → IsNode node → HasOrigin after (key_of (row.Task (task.Backfill registration node))) (key_of (row.Pattern registration node))
     by (inl none) = stay (nothing_leaves writes commit before after none whole)
     by (inr (inl load)) = stay (load_leaves (absent_of load.0 answers) commit before after (absent_all IsTriple load.0 answers load.1.load.valid) (subst (λ ws. StandsWhole ws commit before after) load.1.writes_are whole))
     by (inr (inr register)) = λ registration node number small.

@@ -1,18 +1,20 @@
 -- What stands of registrations, and of the rows that tasks were made for, after a commit.
-use Rattle.std.proofs.Common.{◌≡◌, ◌≢◌, ◌⊎◌, inl, inr, ℕ, List, [], Option, Some, None, refl, ap, sym, subst, ◌∙◌, arith}
+use Rattle.std.proofs.Common.{◌≡◌, ◌≢◌, ◌⊎◌, inl, inr, ◌<◌, ℕ, Bool, true, false, nat_le, is_some, List, [], Option, Some, None, IsSome, refl, ap, sym, subst, ◌∙◌, arith}
+use Rattle.std.proofs.lemmas.Bool.{leb-false, leb-true}
 use Rattle.std.specs.Option.{option_map}
 use Rattle.pcj_term.proofs.ByteLemmas.{bytes_cases}
-use Rattle.pcj_table.specs.Row.{newest}
 use Rattle.pcj_table.specs.Table.{Key}
 use Rattle.pcj_table.specs.declared.version.Version.{Version}
 use Rattle.pcj_encode.specs.declared.task_name.TaskName.TheVariants as task
 use Rattle.pcj_encode.specs.declared.key_name.KeyName.TheVariants as row
 use Rattle.pcj_encode.specs.Name.{IsNode, IsRegistration, key_of, registration_part}
 use Rattle.pcj_tree.specs.declared.tree.Tree.{Tree}
-use Rattle.pcj_mvcc.specs.Reading.{Put, Rows, put_of, standing, versions_read}
+use Rattle.pcj_mvcc.proofs.Laws.{same_standing}
+use Rattle.pcj_mvcc.specs.Laws.{IsWritten, SameStanding}
+use Rattle.pcj_mvcc.specs.Reading.{Put, Rows, seen, standing, versions_read}
 use Rattle.pcj_moves.specs.StandingLaws.{StandsWhole}
 use Rattle.pcj_moves.proofs.ActorLemmas.{by_number}
-use Rattle.pcj_fit.specs.Origins.{IsAfter, TasksHaveOrigins}
+use Rattle.pcj_fit.specs.Origins.{HasOrigin, IsAfter, TasksHaveOrigins}
 use Rattle.pcj_fit.specs.Plans.{registration_writes}
 use Rattle.pcj_fit.specs.Registrations.{IsQueryTree, IsRegistered, RegistrationsStand, pattern_at, registration_value}
 use Rattle.pcj_fit.proofs.RegisterLemmas.{Part, as_backfill, as_pattern, name_written, own_written, part_name, part_write, part_written, register_names}
@@ -24,17 +26,17 @@ use Rattle.pcj_fit.proofs.WriteLemmas.{none_written}
 pub record SameRegistrations (before after : Rows) : Type 0 where
   pub names : (name : List ℕ) → standing after (key_of (row.Name name)) ≡ standing before (key_of (row.Name name))
   pub registrations : (registration : ℕ) → IsRegistration registration → standing after (key_of (row.Registration registration)) ≡ standing before (key_of (row.Registration registration))
-  pub parts : (part : Part) (registration node : ℕ) → IsRegistration registration → IsNode node → standing after (key_of (part_name part registration node)) ≡ standing before (key_of (part_name part registration node))
+  pub parts : (part : Part) (registration node : ℕ) → IsRegistration registration → IsNode node → SameStanding before after (key_of (part_name part registration node))
 
 pub same_reading : (before after : Rows) → versions_read after ≡ versions_read before → SameRegistrations before after
 same_reading before after same = record {
-  names = λ name. stays (key_of (row.Name name));
-  registrations = λ registration number. stays (key_of (row.Registration registration));
+  names = λ name. (stays (key_of (row.Name name))).stands;
+  registrations = λ registration number. (stays (key_of (row.Registration registration))).stands;
   parts = λ part registration node number small. stays (key_of (part_name part registration node));
 }
   where
-    stays : (key : Key) → standing after key ≡ standing before key
-    stays key = ap (λ (read : Key → List Version). put_of (newest (read key))) same
+    stays : (key : Key) → SameStanding before after key
+    stays key = same_standing before after key (ap (λ (read : Key → List Version). read key) same)
 
 registered_same : (before after : Rows) (registration : ℕ) (name : List ℕ) (tree : Tree) (commit : ℕ) → SameRegistrations before after → IsRegistered before registration name tree commit → IsRegistered after registration name tree commit
 registered_same before after registration name tree commit same is = record {
@@ -42,7 +44,7 @@ registered_same before after registration name tree commit same is = record {
   of_query = is.of_query;
   named = same.names name ∙ is.named;
   stands = same.registrations registration is.number ∙ is.stands;
-  patterns = λ node small. same.parts as_pattern registration node is.number small ∙ is.patterns node small;
+  patterns = λ node small. (same.parts as_pattern registration node is.number small).stands ∙ is.patterns node small;
 }
 
 pub registrations_stay : (before after : Rows) → SameRegistrations before after → RegistrationsStand before → RegistrationsStand after
@@ -50,17 +52,33 @@ registrations_stay before after same stand = record {
   names = λ name put e. let was = stand.names name put (sym (same.names name) ∙ e) in (was.0, was.1, registered_same before after was.0 name was.1 put.1 same was.2);
   registrations = λ registration put number e. let was = stand.registrations registration put number (sym (same.registrations registration number) ∙ e) in (was.0, was.1, registered_same before after registration was.0 was.1 put.1 same was.2);
   patterns = λ registration node put number small e.
-      let was = stand.patterns registration node put number small (sym (same.parts as_pattern registration node number small) ∙ e) in (was.0, was.1, registered_same before after registration was.0 was.1 put.1 same was.2);
+      let was = stand.patterns registration node put number small (sym (same.parts as_pattern registration node number small).stands ∙ e) in (was.0, was.1, registered_same before after registration was.0 was.1 put.1 same was.2);
 }
 
 -- ---- tasks and their origins
 
-pub after_same : (task task' origin origin' : Option Put) → task' ≡ task → origin' ≡ origin → IsAfter task origin → IsAfter task' origin'
+after_same : (task task' origin origin' : Option Put) → task' ≡ task → origin' ≡ origin → IsAfter task origin → IsAfter task' origin'
 after_same task task' origin origin' same same' is = subst (λ t. IsAfter t origin') (sym same) (subst (IsAfter task) (sym same') is)
 
--- they stand with one commit
-pub after_at_once : (task origin : Option Put) (value other : List ℕ) (commit : ℕ) → task ≡ Some (value, commit) → origin ≡ Some (other, commit) → IsAfter task origin
-after_at_once task origin value other commit e e' = subst (λ t. IsAfter t origin) (sym e) ((other, commit), e', omega arith)
+pub origin_stays : (before after : Rows) (task origin : Key) → SameStanding before after task → SameStanding before after origin → HasOrigin before task origin → HasOrigin after task origin
+origin_stays before after task origin same same' is = record {
+  stands = after_same (standing before task) (standing after task) (standing before origin) (standing after origin) same.stands same'.stands is.stands;
+  was_seen = λ at some. ap is_some (same'.sees at) ∙ is.was_seen at (ap is_some (sym (same.sees at)) ∙ some);
+}
+
+-- they are written with one commit
+pub origin_written : (before after : Rows) (task origin : Key) (value other : List ℕ) (commit : ℕ) → ((key : Key) (at : ℕ) → at < commit → seen after key at ≡ seen before key at) → IsWritten after task (Some value) commit →
+    IsWritten after origin (Some other) commit → HasOrigin before task origin → HasOrigin after task origin
+origin_written before after task origin value other commit earlier written written' is = record {
+  stands = subst (λ t. IsAfter t (standing after origin)) (sym written.stands) ((other, commit), written'.stands, omega arith);
+  was_seen = λ at some. by at some (nat_le commit at) refl;
+}
+  where
+    by : (at : ℕ) → IsSome (seen after task at) → (b : Bool) → nat_le commit at ≡ b → IsSome (seen after origin at)
+    by at some true e = ap is_some (written'.sees at (leb-true commit at e))
+    by at some false e =
+        let lt = leb-false commit at e in
+        ap is_some (earlier origin at lt) ∙ is.was_seen at (ap is_some (sym (earlier task at lt)) ∙ some)
 
 -- ---- where a registration's rows are written
 
@@ -74,15 +92,15 @@ pub record Registers (before after : Rows) (start : ℕ) (name : List ℕ) (tree
 
 -- what stands of a node
 pub part_stands : (before after : Rows) (start : ℕ) (name : List ℕ) (tree : Tree) (commit : ℕ) (part : Part) (node : ℕ) (value : List ℕ) → Registers before after start name tree commit → IsNode node → pattern_at tree node ≡ Some value →
-    standing after (key_of (part_name part start node)) ≡ option_map (λ bytes. (bytes, commit)) (part_write part start node value).value
+    IsWritten after (key_of (part_name part start node)) (part_write part start node value).value commit
 part_stands before after start name tree commit part node value is small e =
-    (is.whole.written (key_of (part_name part start node)) (part_write part start node value)
-    (part_written start name tree part node is.number is.of_query small ∙ ap (option_map (part_write part start node)) e)).stands
+    is.whole.written (key_of (part_name part start node)) (part_write part start node value)
+    (part_written start name tree part node is.number is.of_query small ∙ ap (option_map (part_write part start node)) e)
 
 pub no_part_stands : (before after : Rows) (start : ℕ) (name : List ℕ) (tree : Tree) (commit : ℕ) (part : Part) (node : ℕ) → Registers before after start name tree commit → IsNode node → pattern_at tree node ≡ None →
-    standing after (key_of (part_name part start node)) ≡ standing before (key_of (part_name part start node))
+    SameStanding before after (key_of (part_name part start node))
 no_part_stands before after start name tree commit part node is small e =
-    (is.whole.others (key_of (part_name part start node)) (part_written start name tree part node is.number is.of_query small ∙ ap (option_map (part_write part start node)) e)).stands
+    is.whole.others (key_of (part_name part start node)) (part_written start name tree part node is.number is.of_query small ∙ ap (option_map (part_write part start node)) e)
 
 -- a row of no other registration
 other_names : (before after : Rows) (start : ℕ) (name : List ℕ) (tree : Tree) (commit : ℕ) (other : List ℕ) → Registers before after start name tree commit → name ≢ other →
@@ -96,11 +114,11 @@ other_registrations before after start name tree commit other is number differs 
     (register_names (λ n. n ≢ row.Registration other) start name tree is.number is.of_query (λ e. cc) (λ e. differs (cc)) (λ node e. cc) (λ node e. cc)))).stands
 
 pub other_parts : (before after : Rows) (start : ℕ) (name : List ℕ) (tree : Tree) (commit : ℕ) (part : Part) (other node : ℕ) → Registers before after start name tree commit → IsRegistration other → IsNode node → start ≢ other →
-    standing after (key_of (part_name part other node)) ≡ standing before (key_of (part_name part other node))
-other_parts before after start name tree commit as_pattern other node is number small differs = (is.whole.others (key_of (row.Pattern other node)) (none_written (registration_writes start name tree) (row.Pattern other node) (number, small)
-    (register_names (λ n. n ≢ row.Pattern other node) start name tree is.number is.of_query (λ e. cc) (λ e. cc) (λ m e. differs (cc)) (λ m e. cc)))).stands
-other_parts before after start name tree commit as_backfill other node is number small differs = (is.whole.others (key_of (row.Task (task.Backfill other node))) (none_written (registration_writes start name tree) (row.Task (task.Backfill other node)) (number, small)
-    (register_names (λ n. n ≢ row.Task (task.Backfill other node)) start name tree is.number is.of_query (λ e. cc) (λ e. cc) (λ m e. cc) (λ m e. differs (cc))))).stands
+    SameStanding before after (key_of (part_name part other node))
+other_parts before after start name tree commit as_pattern other node is number small differs = is.whole.others (key_of (row.Pattern other node)) (none_written (registration_writes start name tree) (row.Pattern other node) (number, small)
+    (register_names (λ n. n ≢ row.Pattern other node) start name tree is.number is.of_query (λ e. cc) (λ e. cc) (λ m e. differs (cc)) (λ m e. cc)))
+other_parts before after start name tree commit as_backfill other node is number small differs = is.whole.others (key_of (row.Task (task.Backfill other node))) (none_written (registration_writes start name tree) (row.Task (task.Backfill other node)) (number, small)
+    (register_names (λ n. n ≢ row.Task (task.Backfill other node)) start name tree is.number is.of_query (λ e. cc) (λ e. cc) (λ m e. cc) (λ m e. differs (cc))))
 
 -- the new one stands
 pub new_stands : (before after : Rows) (start : ℕ) (name : List ℕ) (tree : Tree) (commit : ℕ) → Registers before after start name tree commit → RegistrationsStand before → IsRegistered after start name tree commit
@@ -118,8 +136,8 @@ new_stands before after start name tree commit is stand = record {
         let clash : None ≡ Some (registration_value was.0 was.1, put.1) = sym none ∙ there in cc)
 
     by : (node : ℕ) → IsNode node → (found : Option (List ℕ)) → pattern_at tree node ≡ found → standing after (key_of (row.Pattern start node)) ≡ option_map (λ value. (value, commit)) (pattern_at tree node)
-    by node small (Some value) e = part_stands before after start name tree commit as_pattern node value is small e ∙ ap (option_map (λ bytes. (bytes, commit))) (sym e)
-    by node small None e = no_part_stands before after start name tree commit as_pattern node is small e
+    by node small (Some value) e = (part_stands before after start name tree commit as_pattern node value is small e).stands ∙ ap (option_map (λ bytes. (bytes, commit))) (sym e)
+    by node small None e = (no_part_stands before after start name tree commit as_pattern node is small e).stands
         ∙ none_before node small (standing before (key_of (row.Pattern start node))) refl ∙ ap (option_map (λ bytes. (bytes, commit))) (sym e)
 
 -- and so do those that stood
@@ -130,7 +148,7 @@ still_stands before after start name tree commit registration other its at is wa
   of_query = was.of_query;
   named = other_names before after start name tree commit other is names_differ ∙ was.named;
   stands = other_registrations before after start name tree commit registration is was.number numbers_differ ∙ was.stands;
-  patterns = λ node small. other_parts before after start name tree commit as_pattern registration node is was.number small numbers_differ ∙ was.patterns node small;
+  patterns = λ node small. (other_parts before after start name tree commit as_pattern registration node is was.number small numbers_differ).stands ∙ was.patterns node small;
 }
   where
     names_differ : name ≢ other
@@ -182,7 +200,7 @@ registrations_join before after start name tree commit is stand = record { names
         (other : List ℕ) × (its : Tree) × IsRegistered after registration other its put.1
     patterns registration node put number small e = by_number start registration
         (λ same. (name, tree, subst (λ n. IsRegistered after n name tree put.1) same (at (pattern_at tree node) refl (ap (λ n. standing after (key_of (row.Pattern n node))) same ∙ e))))
-        (λ differs. let was = stand.patterns registration node put number small (sym (other_parts before after start name tree commit as_pattern registration node is number small differs) ∙ e) in (was.0, was.1, still registration was.0 was.1 put.1 was.2))
+        (λ differs. let was = stand.patterns registration node put number small (sym (other_parts before after start name tree commit as_pattern registration node is number small differs).stands ∙ e) in (was.0, was.1, still registration was.0 was.1 put.1 was.2))
       where
         at : (found : Option (List ℕ)) → pattern_at tree node ≡ found → standing after (key_of (row.Pattern start node)) ≡ Some put → IsRegistered after start name tree put.1
         at None none there = absurd (let clash : None ≡ Some put = ap (option_map (λ bytes. (bytes, commit))) (sym none) ∙ sym (new.patterns node small) ∙ there in cc)
@@ -190,15 +208,15 @@ registrations_join before after start name tree commit is stand = record { names
 
 -- its backfills were made for its patterns
 pub backfill_joins : (before after : Rows) (start : ℕ) (name : List ℕ) (tree : Tree) (commit : ℕ) (registration node : ℕ) → Registers before after start name tree commit → IsRegistration registration → IsNode node → TasksHaveOrigins before →
-    IsAfter (standing after (key_of (row.Task (task.Backfill registration node)))) (standing after (key_of (row.Pattern registration node)))
+    HasOrigin after (key_of (row.Task (task.Backfill registration node))) (key_of (row.Pattern registration node))
 backfill_joins before after start name tree commit registration node is number small origins = by_number start registration
-    (λ same. subst (λ n. IsAfter (standing after (key_of (row.Task (task.Backfill n node)))) (standing after (key_of (row.Pattern n node)))) same (at (pattern_at tree node) refl))
-    (λ differs. after_same (standing before (key_of (row.Task (task.Backfill registration node)))) _ (standing before (key_of (row.Pattern registration node))) _
+    (λ same. subst (λ n. HasOrigin after (key_of (row.Task (task.Backfill n node))) (key_of (row.Pattern n node))) same (at (pattern_at tree node) refl))
+    (λ differs. origin_stays before after (key_of (row.Task (task.Backfill registration node))) (key_of (row.Pattern registration node))
     (other_parts before after start name tree commit as_backfill registration node is number small differs) (other_parts before after start name tree commit as_pattern registration node is number small differs)
     (origins.backfills registration node number small))
   where
-    at : (found : Option (List ℕ)) → pattern_at tree node ≡ found → IsAfter (standing after (key_of (row.Task (task.Backfill start node)))) (standing after (key_of (row.Pattern start node)))
-    at None none = after_same (standing before (key_of (row.Task (task.Backfill start node)))) _ (standing before (key_of (row.Pattern start node))) _
+    at : (found : Option (List ℕ)) → pattern_at tree node ≡ found → HasOrigin after (key_of (row.Task (task.Backfill start node))) (key_of (row.Pattern start node))
+    at None none = origin_stays before after (key_of (row.Task (task.Backfill start node))) (key_of (row.Pattern start node))
         (no_part_stands before after start name tree commit as_backfill node is small none) (no_part_stands before after start name tree commit as_pattern node is small none) (origins.backfills start node is.number small)
-    at (Some value) some = after_at_once _ _ [] value commit
-        (part_stands before after start name tree commit as_backfill node value is small some) (part_stands before after start name tree commit as_pattern node value is small some)
+    at (Some value) some = origin_written before after (key_of (row.Task (task.Backfill start node))) (key_of (row.Pattern start node)) [] value commit is.whole.earlier
+        (part_stands before after start name tree commit as_backfill node value is small some) (part_stands before after start name tree commit as_pattern node value is small some) (origins.backfills start node is.number small)

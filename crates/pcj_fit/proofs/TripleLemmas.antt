@@ -7,7 +7,7 @@ use Rattle.pcj_term.proofs.ListLemmas.{first_or_later, first_there, later_there,
 use Rattle.pcj_term.proofs.Same.{same_triple_refl, same_triple_true}
 use Rattle.pcj_term.specs.declared.triple.Triple.{Triple}
 use Rattle.pcj_term.specs.Triple.{same_triple}
-use Rattle.pcj_table.specs.Row.{has_nothing, newest}
+use Rattle.pcj_table.specs.Row.{has_nothing, newest, versions_up_to}
 use Rattle.pcj_table.specs.Table.{Key}
 use Rattle.pcj_table.specs.declared.row.Row.{Row}
 use Rattle.pcj_encode.specs.declared.order.Order.{Order}
@@ -27,7 +27,7 @@ use Rattle.pcj_moves.proofs.StandingLemmas.{one_move_changes}
 use Rattle.pcj_moves.specs.Moves.{CommitPrimary, rows_after}
 use Rattle.pcj_choices.proofs.ClaimLemmas.{reads_the_same}
 use Rattle.pcj_fit.specs.Laws.{ClockAloneIsFit, FoundAreThere, LoadsAddTriples, MovesLeaveTriples}
-use Rattle.pcj_fit.specs.Origins.{IsAfter}
+use Rattle.pcj_fit.specs.Origins.{HasOrigin, IsAfter}
 use Rattle.pcj_fit.specs.Plans.{AreReadOf, IsLoadPlan, absent_of, load_writes}
 use Rattle.pcj_fit.specs.QueryLaws.{RegistrationsLeaveTriples}
 use Rattle.pcj_fit.specs.Rows.{Decodes, IsDecoded}
@@ -213,8 +213,11 @@ clock_alone_is_fit number rows alone = (
     nothing : (key : Key) (put : Put) → standing rows key ≡ Some put → ⊥
     nothing key put e = let clash : None ≡ Some put = sym (stands_nowhere key) ∙ e in cc
 
-    untasked : (key origin : Key) → IsAfter (standing rows key) (standing rows origin)
-    untasked key origin = subst (λ found. IsAfter found (standing rows origin)) (sym (stands_nowhere key)) tt
+    untasked : (key origin : Key) → HasOrigin rows key origin
+    untasked key origin = record {
+      stands = subst (λ found. IsAfter found (standing rows origin)) (sym (stands_nowhere key)) tt;
+      was_seen = λ at some. absurd (let clash : false ≡ true = ap (λ vs. is_some (put_of (newest (versions_up_to at vs)))) (sym (nothing_read rows none key)) ∙ some in cc);
+    }
 
     at : (key : Key) → has_nothing (rows key) ≡ false → (key ≡ clock_key) ⊎ (key ≡ clock_key → ⊥) → IsDecoded number key (rows key)
     at key some (inl same) = record { name = row.Clock; valid = tt; granted = tt; is = same; holds = subst (λ k. Rattle.pcj_fit.specs.Rows.IsClockRow (rows k)) (sym same) alone.clock }

@@ -20,8 +20,8 @@ abbrev pub IsClockPlain : Key → Plain → Type 0
 IsClockPlain key plain = (key ≡ clock_key) × (plain.value ≡ Some [])
 
 -- All is as it has to be of each actor and of each two; the rows are fit whichever of the transactions that may be
--- committed next are committed; each actor writes what its plan says; and `low` is a number from which on all numbers are
--- starts of actors: a registration's row with such a number is its transaction's own.
+-- committed next are committed; and each actor writes what its plan says. No actor started below `low`, and from it on a
+-- registration's row has nothing but what the transaction whose start is its number wrote there.
 pub record Sound (state : State) : Type 0 where
   pub consistent : IsConsistent state
   pub fit : (choice : Choice) → IsChoice (IsRipeAt state.rows state.actors) choice → Fit state.number (under choice state.rows)
