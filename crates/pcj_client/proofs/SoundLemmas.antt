@@ -64,7 +64,7 @@ planned progress triples writes kept work = by progress.task refl work.task
     by (Get key) is at = nothing (Get key) is refl
     by (Next range) is at = absurd at
     by (Put key plain) is at = absurd at
-    by (Writes txn) is at = inr (triples, plan_of progress triples writes kept txn work is)
+    by (Writes txn) is at = inr (inl (triples, plan_of progress triples writes kept txn work is))
 
 pub no_plain : (progress : Progress) (triples : List Triple) (writes : List Write) (kept : Option ℕ) (rows : Rows) → IsAtWork progress triples writes kept → ReadsNoPlain progress.task rows
 no_plain progress triples writes kept rows work = by progress.task work.task

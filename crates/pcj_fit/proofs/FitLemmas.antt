@@ -1,7 +1,10 @@
 -- Every move keeps the rows fit.
-use Rattle.std.proofs.Common.{◌≡◌, ◌<◌, ℕ, suc, Bool, true, false, nat_lt, List, [], ◌∷◌, Some, None, refl, ap, sym, subst, ◌∙◌, arith, if◌then◌else◌}
+use Rattle.std.proofs.Common.{◌≡◌, ◌≢◌, inl, inr, ◌<◌, ◌≤◌, ℕ, suc, Bool, true, false, nat_lt, List, [], ◌∷◌, Option, Some, None, refl, ap, sym, subst, ◌∙◌, arith, if◌then◌else◌}
 use Rattle.std.proofs.lemmas.Bool.{and_parts, ltb-true}
+use Rattle.std.specs.List.{All, Contains}
 use Rattle.std.specs.Option.{option_map}
+use Rattle.pcj_term.proofs.ByteLemmas.{same_bytes_itself}
+use Rattle.pcj_term.proofs.ListLemmas.{first_there}
 use Rattle.pcj_term.specs.declared.triple.Triple.{Triple}
 use Rattle.pcj_table.specs.Row.{newest, updated}
 use Rattle.pcj_table.specs.Table.{Key}
@@ -12,15 +15,21 @@ use Rattle.pcj_table.specs.declared.update.Update.TheVariants.{SetPlain}
 use Rattle.pcj_table.specs.declared.version.Version.{Version}
 use Rattle.pcj_table.specs.declared.write.Write.{Write}
 use Rattle.pcj_encode.specs.declared.order.Order.TheVariants.{Spo, Pos, Osp}
+use Rattle.pcj_encode.specs.declared.task_name.TaskName.TheVariants as task
 use Rattle.pcj_encode.specs.declared.key_name.KeyName.TheVariants as row
-use Rattle.pcj_encode.specs.Name.{IsTriple}
+use Rattle.pcj_encode.specs.Name.{IsNode, IsRegistration, IsTriple, key_of}
+use Rattle.pcj_tree.specs.declared.tree.Tree.{Tree}
 use Rattle.pcj_rowtables.specs.Rows.{triple_key}
-use Rattle.pcj_mvcc.proofs.Laws.{lock_there, replaced, rolled_back}
+use Rattle.pcj_mvcc.proofs.Laws.{lock_there, replaced, rolled_back, same_standing}
+use Rattle.pcj_mvcc.specs.Laws.{SameStanding}
 use Rattle.pcj_mvcc.proofs.Versions.{version_of_start}
 use Rattle.pcj_mvcc.specs.Acts.{commit_act, lock_of, roll_back_act, version_of}
-use Rattle.pcj_mvcc.specs.Reading.{Rows, acted, allows, commit_of, committed, put, put_of, standing, versions_read}
+use Rattle.pcj_mvcc.specs.Reading.{Put, Rows, acted, allows, commit_of, committed, put, put_of, seen, standing, versions_read}
 use Rattle.pcj_moves.specs.Traces.{traces}
 use Rattle.pcj_moves.specs.Transactions.{primary_of, with_commit, write_at}
+use Rattle.pcj_moves.specs.declared.answer.Answer.{Answer}
+use Rattle.pcj_moves.specs.declared.answer.Answer.TheVariants.{OfRow}
+use Rattle.pcj_moves.specs.Reads.{Reads}
 use Rattle.pcj_moves.specs.Recoveries.{Knows, Recovers, Recovery}
 use Rattle.pcj_moves.specs.Actors.{Actor, with_transaction}
 use Rattle.pcj_moves.specs.Moves.{CommitNothing, CommitPrimary, CommitSecondary, Draw, DropPrimary, EndRecovery, IsAllowed, IsConsistent, Learn, MayCommitPrimary, MayCommitSecondary, MayPrewrite, Meet, Move, Plan, Prewrite, Read, RollBack, RollForward, WritePlain, actor_after, number_after, rows_after}
@@ -34,11 +43,19 @@ use Rattle.pcj_choices.specs.ChoiceLaws.{IsLast}
 use Rattle.pcj_choices.specs.UnderChoice.{is_primary_commit}
 use Rattle.pcj_choices.proofs.ClaimLemmas.{IsKept, WritesOnly, reads_the_same}
 use Rattle.pcj_fit.specs.Fit.{AtomicRows, Fit, NumbersApart}
-use Rattle.pcj_fit.specs.Plans.{HasPlan}
+use Rattle.pcj_fit.specs.Origins.{HasOrigin, TasksHaveOrigins}
+use Rattle.pcj_fit.specs.OwnRows.{AreOwnFrom, IsOwnRow}
+use Rattle.pcj_fit.specs.Plans.{HasPlan, IsRegisterPlan, absent_of, load_writes}
+use Rattle.pcj_fit.specs.Registrations.{RegistrationsStand}
 use Rattle.pcj_fit.specs.Rows.{Decodes, HoldsVersions, IsDecoded, IsLockOf, IsVersionOf}
 use Rattle.pcj_fit.specs.Sound.{IsClockPlain}
 use Rattle.pcj_fit.proofs.NumberLemmas.{apart_committed, apart_kept, apart_locked}
-use Rattle.pcj_fit.proofs.PlanLemmas.{CanWrite, Mark, by_order, can_write, mark_key, writes_whole, written_by}
+use Rattle.pcj_fit.proofs.OwnRowLemmas.{own_is_empty, own_is_kept, own_replaced}
+use Rattle.pcj_fit.proofs.OldLemmas.{IsOld, written_is_old}
+use Rattle.pcj_fit.proofs.RegisterLemmas.{Part, as_backfill, as_pattern, name_written, own_written, part_name, part_valid}
+use Rattle.pcj_fit.proofs.RegisteredLemmas.{Registers, SameRegistrations, backfill_joins, origin_stays, origin_written, registrations_join, registrations_stay, same_reading}
+use Rattle.pcj_fit.proofs.WriteLemmas.{CanWrite, none_written}
+use Rattle.pcj_fit.proofs.PlanLemmas.{Mark, WritesWhole, absent_all, as_task, by_order, load_names, mark_name, can_write, mark_key, writes_whole, written_by}
 use Rattle.pcj_fit.proofs.RowLemmas.{all_with_version, decodes_later, decodes_put, from_versions, locked_row, row_of_name, to_versions}
 
 -- ---- the row of a write, and of a lock
@@ -110,6 +127,115 @@ atomic_whole start answers writes commit before after plan whole atomic = record
     same new true e = refl
     same new false e = e
 
+-- ---- registrations, and what tasks were made for
+
+origins_same : (before after : Rows) → versions_read after ≡ versions_read before → TasksHaveOrigins before → TasksHaveOrigins after
+origins_same before after same origins = record {
+  triples = λ triple valid. origin_stays before after (mark_key as_task triple) (mark_key (by_order Spo) triple) (stays (mark_key as_task triple)) (stays (mark_key (by_order Spo) triple)) (origins.triples triple valid);
+  backfills = λ registration node number small. origin_stays before after (key_of (part_name as_backfill registration node)) (key_of (part_name as_pattern registration node))
+      (stays (key_of (part_name as_backfill registration node))) (stays (key_of (part_name as_pattern registration node))) (origins.backfills registration node number small);
+}
+  where
+    stays : (key : Key) → SameStanding before after key
+    stays key = same_standing before after key (ap (λ (read : Key → List Version). read key) same)
+
+-- a commit of something else leaves the rows of registrations
+pub load_leaves : (triples : List Triple) (commit : ℕ) (before after : Rows) → All IsTriple triples → StandsWhole (load_writes triples) commit before after → SameRegistrations before after
+load_leaves triples commit before after valid whole = record {
+  names = λ name. (whole.others (key_of (row.Name name)) (none_written (load_writes triples) (row.Name name) tt (load_names (λ n. n ≢ row.Name name) triples valid (λ mark triple. not_name name mark triple)))).stands;
+  registrations = λ registration number. (whole.others (key_of (row.Registration registration)) (none_written (load_writes triples) (row.Registration registration) number
+      (load_names (λ n. n ≢ row.Registration registration) triples valid (λ mark triple. not_registration registration mark triple)))).stands;
+  parts = λ part registration node number small. whole.others (key_of (part_name part registration node)) (none_written (load_writes triples) (part_name part registration node) (part_valid part registration node number small)
+      (load_names (λ n. n ≢ part_name part registration node) triples valid (λ mark triple. not_part part registration node mark triple)));
+}
+  where
+    not_name : (name : List ℕ) (mark : Mark) (triple : Triple) → mark_name mark triple ≢ row.Name name
+    not_name name (by_order order) triple e = cc
+    not_name name as_task triple e = cc
+
+    not_registration : (registration : ℕ) (mark : Mark) (triple : Triple) → mark_name mark triple ≢ row.Registration registration
+    not_registration registration (by_order order) triple e = cc
+    not_registration registration as_task triple e = cc
+
+    not_part : (part : Part) (registration node : ℕ) (mark : Mark) (triple : Triple) → mark_name mark triple ≢ part_name part registration node
+    not_part as_pattern registration node (by_order order) triple e = cc
+    not_part as_pattern registration node as_task triple e = cc
+    not_part as_backfill registration node (by_order order) triple e = cc
+    not_part as_backfill registration node as_task triple e = cc
+
+nothing_leaves : (writes : List Write) (commit : ℕ) (before after : Rows) → writes ≡ [] → StandsWhole writes commit before after → SameRegistrations before after
+nothing_leaves writes commit before after none whole = record {
+  names = λ name. (whole.others (key_of (row.Name name)) (free (key_of (row.Name name)))).stands;
+  registrations = λ registration number. (whole.others (key_of (row.Registration registration)) (free (key_of (row.Registration registration)))).stands;
+  parts = λ part registration node number small. whole.others (key_of (part_name part registration node)) (free (key_of (part_name part registration node)));
+}
+  where
+    free : (key : Key) → write_at writes key ≡ None
+    free key = ap (λ ws. write_at ws key) none
+
+-- A registration has read that nothing has its name, and its rows are locked since. Its own row has nothing but what it
+-- has written itself.
+pub plan_registers : (start : ℕ) (answers : List Answer) (writes : List Write) (name : List ℕ) (tree : Tree) (commit : ℕ) (before after : Rows) → IsRegisterPlan start answers writes name tree → StandsWhole writes commit before after →
+    ((key : Key) (write : Write) → write_at writes key ≡ Some write → IsOld before start key) → Reads before start answers → (IsRegistration start → IsOwnRow start (before (key_of (row.Registration start)))) → Registers before after start name tree commit
+plan_registers start answers writes name tree commit before after plan whole old reads own = record {
+  number = plan.number;
+  of_query = plan.of_query;
+  whole = subst (λ ws. StandsWhole ws commit before after) plan.writes_are whole;
+  unnamed = sym (old (key_of (row.Name name)) _ (ap (λ ws. write_at ws (key_of (row.Name name))) plan.writes_are ∙ name_written start name tree)).seen_then ∙ unseen;
+  new = ap (λ versions. put_of (newest versions)) (its.read ∙ own_is_empty start (before (key_of (row.Registration start))).versions (own plan.number).versions its.unwritten);
+}
+  where
+    unseen : seen before (key_of (row.Name name)) start ≡ None
+    unseen = none (seen before (key_of (row.Name name)) start)
+        (reads (OfRow (key_of (row.Name name)) None) (subst (λ held. Contains held (OfRow (key_of (row.Name name)) None)) (sym plan.reads) (first_there (OfRow (key_of (row.Name name)) None) [])) (key_of (row.Name name)) (same_bytes_itself (key_of (row.Name name))))
+      where
+        none : (found : Option Put) → option_map (λ (put : Put). put.0) found ≡ None → found ≡ None
+        none None e = refl
+        none (Some put) e = absurd cc
+
+    its : IsOld before start (key_of (row.Registration start))
+    its = old (key_of (row.Registration start)) _ (ap (λ ws. write_at ws (key_of (row.Registration start))) plan.writes_are ∙ own_written start name tree)
+
+registered_whole : (start : ℕ) (answers : List Answer) (writes : List Write) (commit : ℕ) (before after : Rows) → HasPlan start answers writes → StandsWhole writes commit before after →
+    ((key : Key) (write : Write) → write_at writes key ≡ Some write → IsOld before start key) → Reads before start answers → (IsRegistration start → IsOwnRow start (before (key_of (row.Registration start)))) → RegistrationsStand before → RegistrationsStand after
+registered_whole start answers writes commit before after (inl none) whole old reads own stand = registrations_stay before after (nothing_leaves writes commit before after none whole) stand
+registered_whole start answers writes commit before after (inr (inl load)) whole old reads own stand =
+    registrations_stay before after (load_leaves (absent_of load.0 answers) commit before after (absent_all IsTriple load.0 answers load.1.load.valid) (subst (λ ws. StandsWhole ws commit before after) load.1.writes_are whole)) stand
+registered_whole start answers writes commit before after (inr (inr register)) whole old reads own stand =
+    registrations_join before after start register.0 register.1 commit (plan_registers start answers writes register.0 register.1 commit before after register.2 whole old reads own) stand
+
+-- a triple's task is written with the triple
+triple_origins : (start : ℕ) (answers : List Answer) (writes : List Write) (commit : ℕ) (before after : Rows) → HasPlan start answers writes → StandsWhole writes commit before after → TasksHaveOrigins before →
+    (triple : Triple) → IsTriple triple → HasOrigin after (mark_key as_task triple) (mark_key (by_order Spo) triple)
+triple_origins start answers writes commit before after plan whole origins triple valid = by its.is (its.each as_task) (its.each (by_order Spo))
+  where
+    its : WritesWhole writes triple
+    its = writes_whole start answers writes triple plan valid
+
+    by : (b : Bool) → write_at writes (mark_key as_task triple) ≡ written_by b (mark_key as_task triple) → write_at writes (mark_key (by_order Spo) triple) ≡ written_by b (mark_key (by_order Spo) triple) →
+        HasOrigin after (mark_key as_task triple) (mark_key (by_order Spo) triple)
+    by true e e' = origin_written before after (mark_key as_task triple) (mark_key (by_order Spo) triple) [] [] commit whole.earlier
+        (whole.written (mark_key as_task triple) _ e) (whole.written (mark_key (by_order Spo) triple) _ e') (origins.triples triple valid)
+    by false e e' = origin_stays before after (mark_key as_task triple) (mark_key (by_order Spo) triple)
+        (whole.others (mark_key as_task triple) e) (whole.others (mark_key (by_order Spo) triple) e') (origins.triples triple valid)
+
+origins_whole : (start : ℕ) (answers : List Answer) (writes : List Write) (commit : ℕ) (before after : Rows) → HasPlan start answers writes → StandsWhole writes commit before after →
+    ((key : Key) (write : Write) → write_at writes key ≡ Some write → IsOld before start key) → Reads before start answers → (IsRegistration start → IsOwnRow start (before (key_of (row.Registration start)))) → RegistrationsStand before → TasksHaveOrigins before → TasksHaveOrigins after
+origins_whole start answers writes commit before after plan whole old reads own stand origins = record {
+  triples = triple_origins start answers writes commit before after plan whole origins;
+  backfills = by plan;
+}
+  where
+    stay : SameRegistrations before after → (registration node : ℕ) → IsRegistration registration → IsNode node → HasOrigin after (key_of (row.Task (task.Backfill registration node))) (key_of (row.Pattern registration node))
+    stay same registration node number small = origin_stays before after (key_of (part_name as_backfill registration node)) (key_of (part_name as_pattern registration node))
+        (same.parts as_backfill registration node number small) (same.parts as_pattern registration node number small) (origins.backfills registration node number small)
+
+    by : HasPlan start answers writes → (registration node : ℕ) → IsRegistration registration → IsNode node → HasOrigin after (key_of (row.Task (task.Backfill registration node))) (key_of (row.Pattern registration node))
+    by (inl none) = stay (nothing_leaves writes commit before after none whole)
+    by (inr (inl load)) = stay (load_leaves (absent_of load.0 answers) commit before after (absent_all IsTriple load.0 answers load.1.load.valid) (subst (λ ws. StandsWhole ws commit before after) load.1.writes_are whole))
+    by (inr (inr register)) = λ registration node number small.
+        backfill_joins before after start register.0 register.1 commit registration node (plan_registers start answers writes register.0 register.1 commit before after register.2 whole old reads own) number small origins
+
 -- ---- each move
 
 -- the rows after a move, with what is left to show of them
@@ -118,13 +244,16 @@ assembled : (number : ℕ) (rows : Rows) (actor : Actor) (others : List Actor) (
     Fit (number_after move number) (rows_after move actor rows)
 assembled number rows actor others move other may consistent fit decodes apart =
     let after = move_is_consistent number rows actor others move may consistent in
+    let same = reads_the_same number rows actor others move other may consistent in
     record {
       decodes = decodes;
       times = after.times;
       named = after.named;
       once = after.once;
       apart = apart;
-      atomic = atomic_same rows (rows_after move actor rows) (reads_the_same number rows actor others move other may consistent) fit.atomic;
+      atomic = atomic_same rows (rows_after move actor rows) same fit.atomic;
+      registered = registrations_stay rows (rows_after move actor rows) (same_reading rows (rows_after move actor rows) same) fit.registered;
+      origins = origins_same rows (rows_after move actor rows) same fit.origins;
     }
 
 prewrite_fit : (number : ℕ) (rows : Rows) (actor : Actor) (others : List Actor) (write : Write) → HasPlan actor.start actor.answers actor.transaction.writes → MayPrewrite rows actor write →
@@ -219,6 +348,8 @@ others_fit number rows actor others (Draw commit) other plan consistent may plai
   once = fit.once;
   apart = fit.apart;
   atomic = fit.atomic;
+  registered = fit.registered;
+  origins = fit.origins;
 }
 others_fit number rows actor others (CommitPrimary write commit) other plan consistent may plains fit = absurd cc
 others_fit number rows actor others (CommitSecondary write commit) other plan consistent may plains fit = secondary_fit number rows actor others write commit may consistent fit
@@ -236,15 +367,17 @@ others_fit number rows actor others (WritePlain key plain) other plan consistent
 
 -- ---- the last commit
 
-last_fit : (number : ℕ) (rows : Rows) (actor : Actor) (others : List Actor) (write : Write) (commit : ℕ) → HasPlan actor.start actor.answers actor.transaction.writes → IsLast number rows actor others write commit →
-    Fit number rows → Fit (suc commit) (acted rows write.key (commit_act write actor.start commit))
-last_fit number rows actor others write commit plan last fit = record {
+last_fit : (low number : ℕ) (rows : Rows) (actor : Actor) (others : List Actor) (write : Write) (commit : ℕ) → HasPlan actor.start actor.answers actor.transaction.writes → IsLast number rows actor others write commit →
+    low ≤ actor.start → AreOwnFrom low rows → Fit number rows → Fit (suc commit) (acted rows write.key (commit_act write actor.start commit))
+last_fit low number rows actor others write commit plan last le own fit = record {
   decodes = decodes_replaced (suc commit) rows write.key lock commit (decodes_later number (suc commit) rows (omega arith) fit.decodes) locked (omega arith);
   times = after.times;
   named = after.named;
   once = after.once;
   apart = apart_committed number rows write.key lock commit last.draws.granted last.consistent.below locked none last.consistent.own.0.start fit.times.first fit.apart;
-  atomic = atomic_whole actor.start actor.answers actor.transaction.writes commit rows _ plan (one_move_changes (suc commit) rows drawn others (CommitPrimary write commit) may consistent) fit.atomic;
+  atomic = atomic_whole actor.start actor.answers actor.transaction.writes commit rows _ plan whole fit.atomic;
+  registered = registered_whole actor.start actor.answers actor.transaction.writes commit rows _ plan whole (λ key write is. old key write is) last.consistent.sound.0.reads (λ numbered. own actor.start le numbered) fit.registered;
+  origins = origins_whole actor.start actor.answers actor.transaction.writes commit rows _ plan whole (λ key write is. old key write is) last.consistent.sound.0.reads (λ numbered. own actor.start le numbered) fit.registered fit.origins;
 }
   where
     drawn : Actor
@@ -265,6 +398,12 @@ last_fit number rows actor others write commit plan last fit = record {
     at : AtPrimary rows actor.start drawn.transaction write commit
     at = at_primary rows actor.start drawn.transaction write first.0 commit consistent.times consistent.sound.0.transacts first.1 refl may.undone last.allowed
 
+    whole : StandsWhole actor.transaction.writes commit rows (acted rows write.key (commit_act write actor.start commit))
+    whole = one_move_changes (suc commit) rows drawn others (CommitPrimary write commit) may consistent
+
+    old : (key : Key) (other : Write) → write_at actor.transaction.writes key ≡ Some other → IsOld rows actor.start key
+    old key other is = written_is_old rows actor.start drawn.transaction commit key other consistent.times consistent.sound.0.transacts at.ripe is
+
     lock : Lock
     lock = lock_of write actor.start write.key
 
@@ -274,8 +413,22 @@ last_fit number rows actor others write commit plan last fit = record {
     none : commit_of actor.start (rows write.key).versions ≡ None
     none = ap (λ t. option_map (λ v. v.commit) t.version) at.was
 
-pub fit_is_kept : IsKept Fit HasPlan IsClockPlain
-fit_is_kept = record {
-  others = λ number rows actor others move other plan consistent may plains fit. others_fit number rows actor others move other plan consistent may plains fit;
-  last = λ number rows actor others write commit plan last fit. last_fit number rows actor others write commit plan last fit;
+-- fit rows of which those of later registrations are their own
+abbrev pub FitFrom : ℕ → ℕ → Rows → Type 0
+FitFrom low number rows = Fit number rows × AreOwnFrom low rows
+
+abbrev pub PlanFrom : ℕ → ℕ → List Answer → List Write → Type 0
+PlanFrom low start answers writes = HasPlan start answers writes × (low ≤ start)
+
+pub fit_is_kept : (low : ℕ) → IsKept (FitFrom low) (PlanFrom low) IsClockPlain
+fit_is_kept low = record {
+  others = λ number rows actor others move other plan consistent may plains fit. (
+    others_fit number rows actor others move other plan.0 consistent may plains fit.0,
+    own_is_kept low number rows actor others move plan.0 consistent may fit.1,
+  );
+  last = λ number rows actor others write commit plan last fit. (
+    last_fit low number rows actor others write commit plan.0 last plan.1 fit.1 fit.0,
+    let there = lock_there (rows write.key).lock actor.start (and_parts _ _ last.allowed).0 in
+        own_replaced low rows write.key (version_of (lock_of write actor.start write.key) commit) there.0 there.1 there.2 fit.1,
+  );
 }

@@ -1,7 +1,16 @@
 pub mod RowLemmas
 pub mod NumberLemmas
+pub mod OldLemmas
+pub mod WriteLemmas
+pub mod RegisterLemmas
+pub mod RegisteredLemmas
 pub mod PlanLemmas
+pub mod OwnRowLemmas
 pub mod FitLemmas
 pub mod SoundLemmas
+pub mod PutLemmas
 pub mod TripleLemmas
+pub mod QueryLemmas
 pub mod StepLemmas
+pub mod TableTriples
+pub mod TableQueries

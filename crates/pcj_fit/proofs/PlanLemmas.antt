@@ -17,14 +17,16 @@ use Rattle.pcj_encode.specs.declared.order.Order.TheVariants.{Spo, Pos, Osp}
 use Rattle.pcj_encode.specs.declared.task_name.TaskName.TheVariants as task
 use Rattle.pcj_encode.specs.declared.key_name.KeyName.{KeyName}
 use Rattle.pcj_encode.specs.declared.key_name.KeyName.TheVariants as row
-use Rattle.pcj_encode.specs.Name.{IsName, IsTriple, key_of}
+use Rattle.pcj_encode.specs.Name.{IsName, IsRegistration, IsTriple, key_of}
+use Rattle.pcj_tree.specs.declared.tree.Tree.{Tree}
 use Rattle.pcj_moves.specs.declared.answer.Answer.{Answer}
 use Rattle.pcj_moves.specs.declared.answer.Answer.TheVariants.{OfRange, OfRow}
 use Rattle.pcj_moves.specs.Transactions.{are_distinct, write_at}
-use Rattle.pcj_fit.specs.Names.{IsGranted, IsNameGranted, IsTermGranted, IsTripleGranted}
-use Rattle.pcj_fit.specs.Plans.{HasPlan, IsOfLoad, IsTripleOfLoad, absent_of, load_writes, put_mark}
-use Rattle.pcj_fit.specs.Values.{MayHold}
-use Rattle.pcj_fit.proofs.RowLemmas.{is_written}
+use Rattle.pcj_fit.specs.Names.{IsGranted, IsTermGranted, IsTripleGranted}
+use Rattle.pcj_fit.specs.Plans.{HasPlan, IsOfLoad, IsTripleOfLoad, absent_of, load_writes, put_mark, registration_writes}
+use Rattle.pcj_fit.specs.Registrations.{IsQueryTree}
+use Rattle.pcj_fit.proofs.RegisterLemmas.{can_register, register_names}
+use Rattle.pcj_fit.proofs.WriteLemmas.{CanWrite, EachWrite, IsNamed, found_is, none_written}
 
 -- ---- the rows that are written for a triple
 
@@ -111,28 +113,6 @@ mark_written (first ∷ triples) mark triple valid is = by (same_triple triple f
 
 -- ---- what may be written
 
--- the name of the row that is written, and that the value may stand there
-pub record CanWrite (next start : ℕ) (write : Write) : Type 0 where
-  pub begun : IsGranted next start
-  pub name : KeyName
-  pub valid : IsName name
-  pub granted : IsNameGranted next name
-  pub is : write.key ≡ key_of name
-  pub written : is_written name ≡ true
-  pub value : MayHold next name write.value
-
-abbrev EachWrite : (Write → Type 0) → List Write → Type 0
-EachWrite P [] = Unit {0}
-EachWrite P (write ∷ writes) = P write × EachWrite P writes
-
-found_is : (P : Write → Type 0) (writes : List Write) (key : Key) (found : Write) → EachWrite P writes → write_at writes key ≡ Some found → P found
-found_is P [] key found each e = absurd cc
-found_is P (write ∷ writes) key found each e = by (same_bytes key write.key) refl (found_is P writes key found each.1)
-  where
-    by : (b : Bool) → same_bytes key write.key ≡ b → (write_at writes key ≡ Some found → P found) → P found
-    by true same later = let one : Some write ≡ Some found = ap (λ b. cond b (Some write) (write_at writes key)) (sym same) ∙ e in let is : write ≡ found = cc in subst P is each.0
-    by false differs later = later (ap (λ b. cond b (Some write) (write_at writes key)) (sym differs) ∙ e)
-
 term_granted : (next load : ℕ) (term : Term) → IsGranted next load → IsOfLoad load term → IsTermGranted next term
 term_granted next load (Iri iri) granted own = tt
 term_granted next load (Blank number label) granted own = subst (IsGranted next) (sym own) granted
@@ -196,22 +176,55 @@ absent_once (triple ∷ triples) (OfRange after end found ∷ answers) once = ab
 
 pub can_write : (next start : ℕ) (answers : List Answer) (writes : List Write) (write : Write) → start < next → HasPlan start answers writes → write_at writes write.key ≡ Some write → CanWrite next start write
 can_write next start answers writes write lt (inl none) e = absurd (let clash : None ≡ Some write = ap (λ ws. write_at ws write.key) (sym none) ∙ e in cc)
-can_write next start answers writes write lt (inr load) e =
+can_write next start answers writes write lt (inr (inl load)) e =
     found_is (CanWrite next start) (load_writes (absent_of load.0 answers)) write.key write
     (can_load next start (absent_of load.0 answers) (load.1.load.first, lt) (absent_all IsTriple load.0 answers load.1.load.valid) (absent_all (IsTripleOfLoad start) load.0 answers load.1.load.own))
     (ap (λ ws. write_at ws write.key) (sym load.1.writes_are) ∙ e)
+can_write next start answers writes write lt (inr (inr register)) e =
+    found_is (CanWrite next start) (registration_writes start register.0 register.1) write.key write
+    (can_register next start register.0 register.1 (register.2.first, lt) register.2.number register.2.of_query)
+    (ap (λ ws. write_at ws write.key) (sym register.2.writes_are) ∙ e)
 
 -- of a triple all its rows are written, or none
 pub record WritesWhole (writes : List Write) (triple : Triple) : Type 0 where
   pub is : Bool
   pub each : (mark : Mark) → write_at writes (mark_key mark triple) ≡ written_by is (mark_key mark triple)
 
+-- a registration writes none of them
+pub mark_unwritten : (registration : ℕ) (name : List ℕ) (tree : Tree) (mark : Mark) (triple : Triple) → IsRegistration registration → IsQueryTree tree → IsTriple triple →
+    write_at (registration_writes registration name tree) (mark_key mark triple) ≡ None
+mark_unwritten registration name tree (by_order order) triple number is valid =
+    none_written (registration_writes registration name tree) (row.Triple order triple) valid
+    (register_names (λ other. other ≢ row.Triple order triple) registration name tree number is (λ e. cc) (λ e. cc) (λ node e. cc) (λ node e. cc))
+mark_unwritten registration name tree as_task triple number is valid =
+    none_written (registration_writes registration name tree) (row.Task (task.Triple triple)) valid
+    (register_names (λ other. other ≢ row.Task (task.Triple triple)) registration name tree number is (λ e. cc) (λ e. cc) (λ node e. cc) (λ node e. cc))
+
 pub writes_whole : (start : ℕ) (answers : List Answer) (writes : List Write) (triple : Triple) → HasPlan start answers writes → IsTriple triple → WritesWhole writes triple
 writes_whole start answers writes triple (inl none) valid = record { is = false; each = λ mark. ap (λ ws. write_at ws (mark_key mark triple)) none }
-writes_whole start answers writes triple (inr load) valid = record {
+writes_whole start answers writes triple (inr (inl load)) valid = record {
   is = is_among triple (absent_of load.0 answers);
   each = λ mark. ap (λ ws. write_at ws (mark_key mark triple)) load.1.writes_are ∙ mark_written (absent_of load.0 answers) mark triple (absent_all IsTriple load.0 answers load.1.load.valid) valid;
 }
+writes_whole start answers writes triple (inr (inr register)) valid = record {
+  is = false;
+  each = λ mark. ap (λ ws. write_at ws (mark_key mark triple)) register.2.writes_are ∙ mark_unwritten start register.0 register.1 mark triple register.2.number register.2.of_query valid;
+}
+
+-- a load writes no other rows
+pub load_names : (P : KeyName → Type 0) (triples : List Triple) → All IsTriple triples → ((mark : Mark) (triple : Triple) → P (mark_name mark triple)) → EachWrite (IsNamed P) (load_writes triples)
+load_names P [] valid named = tt
+load_names P (triple ∷ triples) valid named =
+    let is = All-head IsTriple triple triples valid in (
+      (row.Triple Spo triple, is, refl, named (by_order Spo) triple),
+      (
+        (row.Triple Pos triple, is, refl, named (by_order Pos) triple),
+        (
+          (row.Triple Osp triple, is, refl, named (by_order Osp) triple),
+          ((row.Task (task.Triple triple), is, refl, named as_task triple), load_names P triples (All-tail IsTriple triple triples valid) named),
+        ),
+      ),
+    )
 
 -- ---- distinct rows
 

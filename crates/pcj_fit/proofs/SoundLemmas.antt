@@ -1,5 +1,5 @@
 -- Every move keeps all sound.
-use Rattle.std.proofs.Common.{◌≡◌, inl, ℕ, suc, Bool, true, false, nat_lt, List, [], ◌∷◌, refl, ap, sym, subst, arith}
+use Rattle.std.proofs.Common.{◌≡◌, inl, ◌≤◌, ℕ, suc, Bool, true, false, nat_lt, List, [], ◌∷◌, refl, ap, sym, subst, arith}
 use Rattle.std.proofs.lemmas.Bool.{and_from, lt-ltb}
 use Rattle.std.proofs.lemmas.List.Elements.{All-head, All-tail}
 use Rattle.std.specs.List.{All, list_all}
@@ -13,19 +13,19 @@ use Rattle.pcj_mvcc.proofs.Choices.{not_chosen}
 use Rattle.pcj_mvcc.proofs.Rows.{rows_alike}
 use Rattle.pcj_mvcc.specs.Choices.{Choice, IsChoice, under, with_commit}
 use Rattle.pcj_mvcc.specs.Reading.{Rows}
-use Rattle.pcj_moves.specs.Actors.{IsOlder, new_actor}
+use Rattle.pcj_moves.specs.Actors.{Actor, IsOlder, new_actor}
 use Rattle.pcj_moves.specs.ChoiceLaws.{IsRipeAt}
-use Rattle.pcj_moves.specs.Moves.{Begins, CommitNothing, CommitPrimary, CommitSecondary, Draw, DropPrimary, EndRecovery, Ends, Learn, Meet, Move, NumbersAreOwn, Plan, Prewrite, Read, RollBack, RollForward, WritePlain}
+use Rattle.pcj_moves.specs.Moves.{Begins, CommitNothing, CommitPrimary, CommitSecondary, Draw, DropPrimary, EndRecovery, Ends, IsAllowed, Learn, Meet, Move, NumbersAreOwn, Plan, Prewrite, Read, RollBack, RollForward, WritePlain, actor_after, number_after}
 use Rattle.pcj_moves.proofs.ConsistencyLemmas.{move_is_consistent}
 use Rattle.pcj_moves.proofs.MoveLemmas.{comes_first, higher_is_consistent, step_is_consistent}
 use Rattle.pcj_moves.proofs.OrderLemmas.{actor_goes_back, each_apart, each_together}
 use Rattle.pcj_choices.proofs.ClaimLemmas.{WritesOnly, claim_begins, claim_ends, claim_first, claim_goes_back, claim_here, claim_is_kept}
 use Rattle.pcj_fit.specs.Fit.{Fit}
 use Rattle.pcj_fit.specs.Laws.{BackIsSound, BeginIsSound, EndIsSound, FirstIsSound, FitGrows, FitIsSound, HigherIsSound, MoveIsSound, SoundIsFit, WritesClock, state_of}
-use Rattle.pcj_fit.specs.Plans.{HasPlan}
 use Rattle.pcj_fit.specs.Rows.{Decodes, IsDecoded, IsVersionOf}
 use Rattle.pcj_fit.specs.Sound.{IsClockPlain, IsPlanned}
-use Rattle.pcj_fit.proofs.FitLemmas.{fit_is_kept}
+use Rattle.pcj_fit.proofs.FitLemmas.{FitFrom, PlanFrom, fit_is_kept}
+use Rattle.pcj_fit.proofs.OwnRowLemmas.{new_are_own, own_is_kept, own_under}
 use Rattle.pcj_fit.proofs.RowLemmas.{decodes_later, is_written, locked_row, to_versions, unwritten_versions}
 
 writes_only : (move : Move) → WritesClock move → WritesOnly IsClockPlain move
@@ -44,11 +44,49 @@ writes_only (RollForward recovery commit) is = tt
 writes_only EndRecovery is = tt
 writes_only (WritePlain key plain) is = is
 
+numbers_rise : (number : ℕ) (rows : Rows) (actor : Actor) (move : Move) → IsAllowed move number rows actor → number ≤ number_after move number
+numbers_rise number rows actor (Plan writes) may = omega arith
+numbers_rise number rows actor (Prewrite write) may = omega arith
+numbers_rise number rows actor (Draw commit) may = let le = may.granted in omega arith
+numbers_rise number rows actor (CommitPrimary write commit) may = omega arith
+numbers_rise number rows actor (CommitSecondary write commit) may = omega arith
+numbers_rise number rows actor (CommitNothing commit) may = omega arith
+numbers_rise number rows actor (Read answer) may = omega arith
+numbers_rise number rows actor (Meet key lock) may = omega arith
+numbers_rise number rows actor (Learn recovery) may = omega arith
+numbers_rise number rows actor (DropPrimary recovery) may = omega arith
+numbers_rise number rows actor (RollBack recovery) may = omega arith
+numbers_rise number rows actor (RollForward recovery commit) may = omega arith
+numbers_rise number rows actor EndRecovery may = omega arith
+numbers_rise number rows actor (WritePlain key plain) may = omega arith
+
+-- a move leaves its actor's start
+same_start : (move : Move) (rows : Rows) (actor : Actor) → (actor_after move rows actor).start ≡ actor.start
+same_start (Plan writes) rows actor = refl
+same_start (Prewrite write) rows actor = refl
+same_start (Draw commit) rows actor = refl
+same_start (CommitPrimary write commit) rows actor = refl
+same_start (CommitSecondary write commit) rows actor = refl
+same_start (CommitNothing commit) rows actor = refl
+same_start (Read answer) rows actor = refl
+same_start (Meet key lock) rows actor = refl
+same_start (Learn recovery) rows actor = refl
+same_start (DropPrimary recovery) rows actor = refl
+same_start (RollBack recovery) rows actor = refl
+same_start (RollForward recovery commit) rows actor = refl
+same_start EndRecovery rows actor = refl
+same_start (WritePlain key plain) rows actor = refl
+
 pub move_is_sound : MoveIsSound
 move_is_sound number rows actor others move may plains planned sound = record {
   consistent = move_is_consistent number rows actor others move may sound.consistent;
-  fit = claim_is_kept Fit HasPlan IsClockPlain fit_is_kept number rows actor others move sound.planned.0 may (writes_only move plains) sound.consistent sound.fit;
+  fit = λ choice is. (claim_is_kept (FitFrom sound.low) (PlanFrom sound.low) IsClockPlain (fit_is_kept sound.low) number rows actor others move (sound.planned.0, sound.later.0) may (writes_only move plains) sound.consistent
+      (λ choice is. (sound.fit choice is, own_under sound.low choice rows sound.own)) choice is).0;
   planned = (planned, sound.planned.1);
+  low = sound.low;
+  since = let rise = numbers_rise number rows actor move may in let le = sound.since in omega (arith, rise, le);
+  own = own_is_kept sound.low number rows actor others move sound.planned.0 sound.consistent may sound.own;
+  later = (subst (λ start. sound.low ≤ start) (sym (same_start move rows actor)) sound.later.0, sound.later.1);
 }
 
 -- ---- actors that begin and end
@@ -61,6 +99,8 @@ fit_grows number more rows le fit = record {
   once = fit.once;
   apart = fit.apart;
   atomic = fit.atomic;
+  registered = fit.registered;
+  origins = fit.origins;
 }
 
 pub higher_is_sound : HigherIsSound
@@ -68,6 +108,10 @@ higher_is_sound number more rows actors le sound = record {
   consistent = higher_is_consistent number more rows actors le sound.consistent;
   fit = λ choice is. fit_grows number more (under choice rows) le (sound.fit choice is);
   planned = sound.planned;
+  low = sound.low;
+  since = let since = sound.since in omega (arith, since, le);
+  own = sound.own;
+  later = sound.later;
 }
 
 pub begin_is_sound : BeginIsSound
@@ -75,6 +119,10 @@ begin_is_sound number start rows actors le sound = record {
   consistent = step_is_consistent (state_of number rows actors) (Begins start) (state_of (suc start) rows (new_actor start ∷ actors)) sound.consistent (le, refl);
   fit = claim_begins (Fit (suc start)) rows start actors (λ choice is. fit_grows number (suc start) (under choice rows) (omega arith) (sound.fit choice is));
   planned = (inl refl, sound.planned);
+  low = sound.low;
+  since = let since = sound.since in omega (arith, since, le);
+  own = sound.own;
+  later = ((let since = sound.since in omega (arith, since, le)), sound.later);
 }
 
 pub end_is_sound : EndIsSound
@@ -82,6 +130,10 @@ end_is_sound number rows actor others sound = record {
   consistent = step_is_consistent (state_of number rows (actor ∷ others)) (Ends [] actor others) (state_of number rows others) sound.consistent (refl, refl);
   fit = claim_ends (Fit number) rows actor others sound.fit;
   planned = sound.planned.1;
+  low = sound.low;
+  since = sound.since;
+  own = sound.own;
+  later = sound.later.1;
 }
 
 pub first_is_sound : FirstIsSound
@@ -89,6 +141,10 @@ first_is_sound number rows front actor back sound = record {
   consistent = comes_first number rows front actor back sound.consistent;
   fit = claim_first (Fit number) rows front actor back sound.fit;
   planned = each_apart IsPlanned front actor back sound.planned;
+  low = sound.low;
+  since = sound.since;
+  own = sound.own;
+  later = each_apart (λ a. sound.low ≤ a.start) front actor back sound.later;
 }
 
 pub back_is_sound : BackIsSound
@@ -104,6 +160,10 @@ back_is_sound number rows front actor back sound = record {
   };
   fit = claim_goes_back (Fit number) rows front actor back sound.fit;
   planned = each_together IsPlanned front actor back sound.planned.0 sound.planned.1;
+  low = sound.low;
+  since = sound.since;
+  own = sound.own;
+  later = each_together (λ a. sound.low ≤ a.start) front actor back sound.later.0 sound.later.1;
 }
 
 -- ---- fit tables
@@ -141,6 +201,10 @@ fit_is_sound number rows fit = record {
   };
   fit = λ choice is. subst (Fit number) (sym (none choice is)) fit;
   planned = tt;
+  low = number;
+  since = omega arith;
+  own = new_are_own number rows fit.decodes;
+  later = tt;
 }
   where
     none : (choice : Choice) → IsChoice (IsRipeAt rows []) choice → under choice rows ≡ rows

@@ -1,8 +1,7 @@
 -- Which triples a table has.
 use Rattle.std.proofs.Common.{◌≡◌, ◌⊎◌, inl, inr, ℕ, Bool, true, false, ◌||◌, is_some, List, [], ◌∷◌, ◌++◌, length, Option, Some, None, IsSome, refl, ap, sym, subst, ◌∙◌, if◌then◌else◌}
-use Rattle.std.proofs.lemmas.List.Elements.{All-append, All-cons, All-head, All-nil, All-tail, Contains-append_cases, Contains-append_left, Contains-append_right}
+use Rattle.std.proofs.lemmas.List.Elements.{All-append, All-head, All-nil, All-tail, Contains-append_cases, Contains-append_left, Contains-append_right}
 use Rattle.std.specs.List.{All, Contains}
-use Rattle.std.specs.Option.{option_map}
 use Rattle.pcj_term.proofs.ByteLemmas.{bytes_cases, same_bytes_itself}
 use Rattle.pcj_term.proofs.ListLemmas.{first_or_later, first_there, later_there, nothing_in, passed_by_one}
 use Rattle.pcj_term.proofs.Same.{same_triple_refl, same_triple_true}
@@ -10,16 +9,14 @@ use Rattle.pcj_term.specs.declared.triple.Triple.{Triple}
 use Rattle.pcj_term.specs.Triple.{same_triple}
 use Rattle.pcj_table.specs.Row.{has_nothing, newest, versions_up_to}
 use Rattle.pcj_table.specs.Table.{Key}
-use Rattle.pcj_table.specs.declared.lock.Lock.{Lock}
 use Rattle.pcj_table.specs.declared.row.Row.{Row}
-use Rattle.pcj_table.specs.declared.version.Version.{Version}
 use Rattle.pcj_encode.specs.declared.order.Order.{Order}
 use Rattle.pcj_encode.specs.declared.order.Order.TheVariants.{Spo, Pos, Osp}
+use Rattle.pcj_encode.specs.declared.task_name.TaskName.TheVariants as task
 use Rattle.pcj_encode.specs.declared.key_name.KeyName.TheVariants as row
-use Rattle.pcj_encode.specs.Name.{IsTriple}
+use Rattle.pcj_encode.specs.Name.{IsTriple, key_of}
 use Rattle.pcj_rowtables.specs.Rows.{triple_key}
 use Rattle.pcj_oracle.specs.Clock.{clock_key}
-use Rattle.pcj_mvcc.specs.Acts.{version_of}
 use Rattle.pcj_mvcc.specs.Reading.{Put, Rows, committed, put_of, reading, seen, standing, versions_read, with_lock}
 use Rattle.pcj_moves.specs.declared.answer.Answer.{Answer}
 use Rattle.pcj_moves.specs.declared.answer.Answer.TheVariants.{OfRange, OfRow}
@@ -30,66 +27,15 @@ use Rattle.pcj_moves.proofs.StandingLemmas.{one_move_changes}
 use Rattle.pcj_moves.specs.Moves.{CommitPrimary, rows_after}
 use Rattle.pcj_choices.proofs.ClaimLemmas.{reads_the_same}
 use Rattle.pcj_fit.specs.Laws.{ClockAloneIsFit, FoundAreThere, LoadsAddTriples, MovesLeaveTriples}
+use Rattle.pcj_fit.specs.Origins.{HasOrigin, IsAfter}
 use Rattle.pcj_fit.specs.Plans.{AreReadOf, IsLoadPlan, absent_of, load_writes}
-use Rattle.pcj_fit.specs.Rows.{Decodes, HoldsVersions, IsDecoded, IsLockOf, IsVersionOf}
+use Rattle.pcj_fit.specs.QueryLaws.{RegistrationsLeaveTriples}
+use Rattle.pcj_fit.specs.Rows.{Decodes, IsDecoded}
 use Rattle.pcj_fit.specs.Triples.{HasTriples}
 use Rattle.pcj_fit.proofs.FitLemmas.{stands_of}
-use Rattle.pcj_fit.proofs.PlanLemmas.{absent_all, by_order, is_among, mark_written}
-use Rattle.pcj_fit.proofs.RowLemmas.{all_with_version, row_of_name}
+use Rattle.pcj_fit.proofs.PlanLemmas.{absent_all, by_order, is_among, mark_unwritten, mark_written}
+use Rattle.pcj_fit.proofs.PutLemmas.{seen_stands}
 use Rattle.pcj_fit.proofs.SoundLemmas.{sound_is_fit}
-
--- ---- rows that are never deleted
-
--- a version of a triple's row is a put
-put_there : (next : ℕ) (order : Order) (triple : Triple) (version : Version) → IsVersionOf next (row.Triple order triple) version → IsSome version.value
-put_there next order triple version is = by version.value refl
-  where
-    by : (value : Option (List ℕ)) → version.value ≡ value → IsSome version.value
-    by None e = absurd (subst (Rattle.pcj_fit.specs.Values.MayHold next (row.Triple order triple)) e is.value)
-    by (Some value) e = ap is_some e
-
--- where there is a version, a put stands
-puts_stand : (versions : List Version) → All (λ version. IsSome version.value) versions → (versions ≡ [] → ⊥) → IsSome (put_of (newest versions))
-puts_stand [] puts some = absurd (some refl)
-puts_stand (version ∷ []) puts some = of version.value refl (All-head (λ v. IsSome v.value) version [] puts)
-  where
-    of : (value : Option (List ℕ)) → version.value ≡ value → IsSome version.value → IsSome (put_of (Some version))
-    of None e is = absurd (let clash : false ≡ true = ap is_some (sym e) ∙ is in cc)
-    of (Some value) e is = ap (λ (v : Option (List ℕ)). is_some {T = Put} (option_map {T = List ℕ} {U = Put} (λ bytes. (bytes, version.commit)) v)) e
-puts_stand (version ∷ next ∷ versions) puts some = puts_stand (next ∷ versions) (All-tail (λ v. IsSome v.value) version (next ∷ versions) puts) (λ e. cc)
-
-all_puts : (next : ℕ) (order : Order) (triple : Triple) (versions : List Version) → All (IsVersionOf next (row.Triple order triple)) versions → All (λ version. IsSome version.value) versions
-all_puts next order triple [] all = All-nil (λ v. IsSome v.value)
-all_puts next order triple (version ∷ versions) all =
-    All-cons (λ v. IsSome v.value) version versions (put_there next order triple version (All-head (IsVersionOf next (row.Triple order triple)) version versions all))
-    (all_puts next order triple versions (All-tail (IsVersionOf next (row.Triple order triple)) version versions all))
-
-read_puts : (next : ℕ) (rows : Rows) (triple : Triple) → Decodes next rows → IsTriple triple → All (λ version. IsSome version.value) (versions_read rows (triple_key Spo triple))
-read_puts next rows triple decodes valid = by (rows (triple_key Spo triple)).lock refl
-  where
-    holds : HoldsVersions next (row.Triple Spo triple) (rows (triple_key Spo triple))
-    holds = row_of_name next rows (row.Triple Spo triple) decodes valid
-
-    here : All (λ version. IsSome version.value) (rows (triple_key Spo triple)).versions
-    here = all_puts next Spo triple (rows (triple_key Spo triple)).versions holds.versions
-
-    locked : (lock : Lock) → IsLockOf next (row.Triple Spo triple) lock → (commit : Option ℕ) → All (λ version. IsSome version.value) (with_lock lock commit (rows (triple_key Spo triple)).versions)
-    locked lock is None = here
-    locked lock is (Some commit) = all_with_version (λ version. IsSome version.value) (version_of lock commit) (rows (triple_key Spo triple)).versions (value lock.value refl is.value) here
-      where
-        value : (v : Option (List ℕ)) → lock.value ≡ v → Rattle.pcj_fit.specs.Values.MayHold next (row.Triple Spo triple) lock.value → IsSome lock.value
-        value None e may = absurd (subst (Rattle.pcj_fit.specs.Values.MayHold next (row.Triple Spo triple)) e may)
-        value (Some bytes) e may = ap is_some e
-
-    by : (lock : Option Lock) → (rows (triple_key Spo triple)).lock ≡ lock → All (λ version. IsSome version.value) (versions_read rows (triple_key Spo triple))
-    by None e = subst (λ l. All (λ version. IsSome version.value) (reading (committed rows) l (rows (triple_key Spo triple)).versions)) (sym e) here
-    by (Some lock) e = subst (λ l. All (λ version. IsSome version.value) (reading (committed rows) l (rows (triple_key Spo triple)).versions)) (sym e)
-        (locked lock (subst (λ (l : Option Lock). Rattle.std.specs.Prelude.IfSome l (IsLockOf next (row.Triple Spo triple))) e holds.lock) (committed rows lock.primary lock.start))
-
--- so what was seen of it at some time stands
-seen_stands : (next : ℕ) (rows : Rows) (triple : Triple) (at : ℕ) (value : List ℕ) → Decodes next rows → IsTriple triple → value_seen rows (triple_key Spo triple) at ≡ Some value → IsSome (standing rows (triple_key Spo triple))
-seen_stands next rows triple at value decodes valid is = puts_stand (versions_read rows (triple_key Spo triple)) (read_puts next rows triple decodes valid)
-    (λ none. let clash : None ≡ Some value = ap (λ vs. option_map (λ (put : Put). put.0) (put_of (newest (versions_up_to at vs)))) (sym none) ∙ is in cc)
 
 -- ---- what a load has read
 
@@ -122,7 +68,7 @@ read_is_there next rows start (first ∷ triples) (OfRow key found ∷ answers) 
     by (Some value) e either rest = or either
       where
         or : (first ≡ triple) ⊎ Contains triples triple → IsSome (standing rows (triple_key Spo triple))
-        or (inl same) = seen_stands next rows triple start value decodes (subst IsTriple same (All-head IsTriple first triples valid))
+        or (inl same) = seen_stands next rows (row.Triple Spo triple) start value decodes (subst IsTriple same (All-head IsTriple first triples valid)) refl (λ deleted. deleted)
             (subst (λ t. value_seen rows (triple_key Spo t) start ≡ Some value) same
             (subst (λ k. value_seen rows k start ≡ Some value) reads.0 (seen (OfRow key found) (first_there (OfRow key found) answers) key (same_bytes_itself key) ∙ e)))
         or (inr later) = rest later (ap (λ f. is_among triple (Rattle.pcj_fit.specs.Plans.absent_by first (OfRow key f) ++ absent_of triples answers)) (sym e) ∙ absent)
@@ -190,7 +136,17 @@ loads_add_triples number rows actor others write commit triples known plan may s
     (λ triple valid. stands_of (load_writes (absent_of triples actor.answers)) commit rows (rows_after (CommitPrimary write commit) actor rows) triple (by_order Spo) (is_among triple (absent_of triples actor.answers)) whole
     (mark_written (absent_of triples actor.answers) (by_order Spo) triple (absent_all IsTriple triples actor.answers plan.load.valid) valid)) has
 
--- a load that writes nothing has found all
+-- ---- the commit of a registration
+
+pub registrations_leave_triples : RegistrationsLeaveTriples
+registrations_leave_triples number rows actor others write commit name tree known plan may sound has =
+    let whole = subst (λ ws. StandsWhole ws commit rows (rows_after (CommitPrimary write commit) actor rows)) plan.writes_are (one_move_changes number rows actor others (CommitPrimary write commit) may sound.consistent) in
+    same_triples rows (rows_after (CommitPrimary write commit) actor rows) known
+    (λ triple valid. (whole.others (triple_key Spo triple) (mark_unwritten actor.start name tree (by_order Spo) triple plan.number plan.of_query valid)).stands) has
+
+-- ---- a load that writes nothing
+
+-- it has found all
 nothing_absent : (triples : List Triple) → [] ≡ load_writes triples → triples ≡ []
 nothing_absent [] e = refl
 nothing_absent (triple ∷ triples) e = absurd cc
@@ -219,6 +175,15 @@ clock_alone_is_fit number rows alone = (
       locks = λ key start commit e. absurd (never key start commit e);
     };
     atomic = record { pos = λ triple valid. stands Pos triple ∙ sym (stands Spo triple); osp = λ triple valid. stands Osp triple ∙ sym (stands Spo triple) };
+    registered = record {
+      names = λ name put e. absurd (nothing (key_of (row.Name name)) put e);
+      registrations = λ registration put small e. absurd (nothing (key_of (row.Registration registration)) put e);
+      patterns = λ registration node put small small' e. absurd (nothing (key_of (row.Pattern registration node)) put e);
+    };
+    origins = record {
+      triples = λ triple valid. untasked (key_of (row.Task (task.Triple triple))) (triple_key Spo triple);
+      backfills = λ registration node small small'. untasked (key_of (row.Task (task.Backfill registration node))) (key_of (row.Pattern registration node));
+    };
   },
   record {
     valid = All-nil IsTriple;
@@ -239,8 +204,20 @@ clock_alone_is_fit number rows alone = (
     never : (key : Key) (start commit : ℕ) → committed rows key start ≡ Some commit → ⊥
     never key start commit e = let clash : None ≡ Some commit = ap (Rattle.pcj_mvcc.specs.Reading.commit_of start) (sym (none key).1) ∙ e in cc
 
+    stands_nowhere : (key : Key) → standing rows key ≡ None
+    stands_nowhere key = ap (λ vs. put_of (newest vs)) (nothing_read rows none key)
+
     stands : (order : Order) (triple : Triple) → standing rows (triple_key order triple) ≡ None
-    stands order triple = ap (λ vs. put_of (newest vs)) (nothing_read rows none (triple_key order triple))
+    stands order triple = stands_nowhere (triple_key order triple)
+
+    nothing : (key : Key) (put : Put) → standing rows key ≡ Some put → ⊥
+    nothing key put e = let clash : None ≡ Some put = sym (stands_nowhere key) ∙ e in cc
+
+    untasked : (key origin : Key) → HasOrigin rows key origin
+    untasked key origin = record {
+      stands = subst (λ found. IsAfter found (standing rows origin)) (sym (stands_nowhere key)) tt;
+      was_seen = λ at some. absurd (let clash : false ≡ true = ap (λ vs. is_some (put_of (newest (versions_up_to at vs)))) (sym (nothing_read rows none key)) ∙ some in cc);
+    }
 
     at : (key : Key) → has_nothing (rows key) ≡ false → (key ≡ clock_key) ⊎ (key ≡ clock_key → ⊥) → IsDecoded number key (rows key)
     at key some (inl same) = record { name = row.Clock; valid = tt; granted = tt; is = same; holds = subst (λ k. Rattle.pcj_fit.specs.Rows.IsClockRow (rows k)) (sym same) alone.clock }

@@ -10,6 +10,8 @@ use Rattle.pcj_oracle.specs.Clock.{stored_number}
 use Rattle.pcj_mvcc.specs.Reading.{Rows, committed, standing}
 use Rattle.pcj_mvcc.specs.Times.{AllVersions, TimesInOrder}
 use Rattle.pcj_moves.specs.Moves.{LocksNameOne, StartsCommitOnce, is_own}
+use Rattle.pcj_fit.specs.Origins.{TasksHaveOrigins}
+use Rattle.pcj_fit.specs.Registrations.{RegistrationsStand}
 use Rattle.pcj_fit.specs.Rows.{Decodes}
 
 -- no number is the commit of two starts, or both a start and a commit
@@ -24,7 +26,8 @@ pub record AtomicRows (rows : Rows) : Type 0 where
 
 -- Rows as a table may have them, where `next` is the first number that wasn't granted. Each row decodes. In each the
 -- versions ascend, a lock started after them, and each version's transaction started before it committed. Locks of one
--- start name one primary, and versions of one start have one commit.
+-- start name one primary, and versions of one start have one commit. The rows of a triple stand together, and so do those
+-- of a registration. A task that stands was made for a row that does.
 pub record Fit (next : ℕ) (rows : Rows) : Type 0 where
   pub decodes : Decodes next rows
   pub times : TimesInOrder rows
@@ -32,6 +35,8 @@ pub record Fit (next : ℕ) (rows : Rows) : Type 0 where
   pub once : StartsCommitOnce rows
   pub apart : NumbersApart rows
   pub atomic : AtomicRows rows
+  pub registered : RegistrationsStand rows
+  pub origins : TasksHaveOrigins rows
 
 -- a table that is fit below its clock's number, which is from 1 to 2^48
 pub record FitTable (table : Table) : Type 0 where

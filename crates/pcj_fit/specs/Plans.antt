@@ -1,5 +1,5 @@
 -- What an actor is to write, by its start and what it has read.
-use Rattle.std.specs.Prelude.{◌≡◌, ◌⊎◌, ℕ, ◌≤◌, List, [], ◌∷◌, ◌++◌, length, Some, None}
+use Rattle.std.specs.Prelude.{◌≡◌, ◌⊎◌, ℕ, suc, ◌≤◌, List, [], ◌∷◌, ◌++◌, length, Option, Some, None}
 use Rattle.std.specs.List.{All, IsDistinct, flat_map}
 use Rattle.pcj_term.specs.declared.term.Term.{Term}
 use Rattle.pcj_term.specs.declared.term.Term.TheVariants.{Iri, Blank, Literal}
@@ -10,10 +10,13 @@ use Rattle.pcj_table.specs.declared.write.Write.{Write}
 use Rattle.pcj_encode.specs.declared.order.Order.TheVariants.{Spo, Pos, Osp}
 use Rattle.pcj_encode.specs.declared.task_name.TaskName.TheVariants as task
 use Rattle.pcj_encode.specs.declared.key_name.KeyName.TheVariants as row
-use Rattle.pcj_encode.specs.Name.{IsTriple, key_of}
+use Rattle.pcj_encode.specs.Name.{IsRegistration, IsTriple, key_of, registration_part}
 use Rattle.pcj_rowtables.specs.Rows.{triple_key}
+use Rattle.pcj_tree.specs.declared.node.Node.{Node}
+use Rattle.pcj_tree.specs.declared.tree.Tree.{Tree}
 use Rattle.pcj_moves.specs.declared.answer.Answer.{Answer}
 use Rattle.pcj_moves.specs.declared.answer.Answer.TheVariants.{OfRange, OfRow}
+use Rattle.pcj_fit.specs.Registrations.{IsQueryTree, registration_value, value_of}
 
 -- ---- loads
 
@@ -75,8 +78,39 @@ pub record IsLoadPlan (start : ℕ) (answers : List Answer) (writes : List Write
   pub all : length answers ≡ length triples
   pub writes_are : writes ≡ load_writes (absent_of triples answers)
 
+-- ---- registrations
+
+abbrev pub put_value : Key → List ℕ → Write
+put_value key value = record { key = key; value = Some value }
+
+-- the row of a node that is a pattern, and the task that looks at the triples that were there before
+abbrev pub pattern_writes : ℕ → ℕ → Option (List ℕ) → List Write
+pattern_writes registration node None = []
+pattern_writes registration node (Some value) =
+    put_value (key_of (row.Pattern registration node)) value ∷ put_mark (key_of (row.Task (task.Backfill registration node))) ∷ []
+
+-- those of nodes that are numbered from this number on
+abbrev pub nodes_writes : ℕ → ℕ → List Node → List Write
+nodes_writes registration number [] = []
+nodes_writes registration number (node ∷ nodes) = pattern_writes registration number (value_of (Some node)) ++ nodes_writes registration (suc number) nodes
+
+abbrev pub registration_writes : ℕ → List ℕ → Tree → List Write
+registration_writes registration name tree =
+    put_value (key_of (row.Name name)) (registration_part registration)
+    ∷ put_value (key_of (row.Registration registration)) (registration_value name tree)
+    ∷ nodes_writes registration 1 tree.nodes
+
+-- a registration, whose number is its start, has read that nothing has its name, and writes its rows
+pub record IsRegisterPlan (start : ℕ) (answers : List Answer) (writes : List Write) (name : List ℕ) (tree : Tree) : Type 0 where
+  pub first : 1 ≤ start
+  pub number : IsRegistration start
+  pub of_query : IsQueryTree tree
+  pub reads : answers ≡ OfRow (key_of (row.Name name)) None ∷ []
+  pub writes_are : writes ≡ registration_writes start name tree
+
 -- ---- plans
 
--- an actor that writes nothing, or a load
+-- an actor that writes nothing, a load, or a registration
 abbrev pub HasPlan : ℕ → List Answer → List Write → Type 0
-HasPlan start answers writes = (writes ≡ []) ⊎ ((triples : List Triple) × IsLoadPlan start answers writes triples)
+HasPlan start answers writes =
+    (writes ≡ []) ⊎ (((triples : List Triple) × IsLoadPlan start answers writes triples) ⊎ ((name : List ℕ) × (tree : Tree) × IsRegisterPlan start answers writes name tree))

@@ -8,7 +8,9 @@ use Rattle.pcj_encode.specs.declared.task_name.TaskName.TheVariants as task
 use Rattle.pcj_encode.specs.declared.key_name.KeyName.{KeyName}
 use Rattle.pcj_encode.specs.declared.key_name.KeyName.TheVariants as row
 use Rattle.pcj_encode.specs.Name.{IsName, key_of, registration_part}
+use Rattle.pcj_tree.specs.declared.tree.Tree.{Tree}
 use Rattle.pcj_fit.specs.Names.{IsGranted, IsNameGranted}
+use Rattle.pcj_fit.specs.Registrations.{IsQueryTree, registration_value}
 
 -- the value is the key of a name of this kind
 abbrev pub IsKeyOf : ℕ → (KeyName → Type 0) → List ℕ → Type 0
@@ -27,15 +29,15 @@ abbrev pub IsGroupValue : List ℕ → Type 0
 IsGroupValue value = (length value ≡ 8) ⊎
     ((number : List ℕ) × (flag : ℕ) × (value ≡ number ++ flag ∷ []) × ((length number ≡ 8) ⊎ (length number ≡ 16)) × (flag < 2))
 
--- The rows of triples and nodes are marks. A registration has its name and its tree, a name its registration, a pattern
--- its slots and the variables of its node. The clock's and the exports' rows have plain values alone.
+-- The rows of triples and nodes are marks. A registration has its name and a query's tree, a name its registration, a
+-- pattern its slots and the variables of its node. The clock's and the exports' rows have plain values alone.
 abbrev pub IsValue : ℕ → KeyName → List ℕ → Type 0
 IsValue next row.Clock value = ⊥
 IsValue next (row.Triple order triple) value = value ≡ []
 IsValue next (row.Node registration node cells) value = value ≡ []
 IsValue next (row.Group registration cells) value = IsGroupValue value
 IsValue next (row.Member registration cells term) value = value ≡ []
-IsValue next (row.Registration registration) value = (name : List ℕ) × (tree : List ℕ) × (value ≡ parts.key_of (name ∷ tree ∷ []))
+IsValue next (row.Registration registration) value = (name : List ℕ) × (tree : Tree) × IsQueryTree tree × (value ≡ registration_value name tree)
 IsValue next (row.Name name) value = (registration : ℕ) × IsGranted next registration × (value ≡ registration_part registration)
 IsValue next (row.Pattern registration node) value =
     (subject : List ℕ) × (predicate : List ℕ) × (object : List ℕ) × (order : List (List ℕ)) × (value ≡ parts.key_of (subject ∷ predicate ∷ object ∷ order))

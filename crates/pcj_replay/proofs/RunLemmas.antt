@@ -46,7 +46,7 @@ use Rattle.pcj_replay.specs.Runs.{Begins, Closes, EndsBehind, Finishes, IsEnding
 use Rattle.pcj_replay.proofs.AnswerLemmas.{below_first, holds_first, holds_left}
 use Rattle.pcj_replay.proofs.InputLemmas.{reads_as, whole_is, whole_of}
 use Rattle.pcj_replay.proofs.ScriptLemmas.{goes_on_with}
-use Rattle.pcj_session.proofs.TableTriples.{table_triples}
+use Rattle.pcj_fit.proofs.TableTriples.{table_triples}
 
 -- ---- what is told
 

@@ -9,4 +9,3 @@ pub mod RegisterLemmas
 pub mod SpentLemmas
 pub mod StatusLemmas
 pub mod StepLemmas
-pub mod TableTriples

@@ -19,7 +19,7 @@ use Rattle.pcj_encode.specs.declared.order.Order.TheVariants.{Spo, Pos, Osp}
 use Rattle.pcj_encode.specs.Name.{IsName, IsTriple, key_of}
 use Rattle.pcj_encode.proofs.Names.{names_one_row}
 use Rattle.pcj_rowtables.specs.Rows.{triple_key}
-use Rattle.pcj_mvcc.specs.Reading.{Put, Rows, committed, put_of, reading, standing}
+use Rattle.pcj_mvcc.specs.Reading.{Rows, committed, put_of, reading, standing}
 use Rattle.pcj_fit.specs.Rows.{Decodes}
 use Rattle.pcj_fit.specs.Triples.{HasTriples}
 
@@ -34,7 +34,7 @@ record StandsAt (rows : Rows) (key : Key) : Type 0 where
 abbrev NoneAt : Rows → Key → Type 0
 NoneAt rows key = (triple : Triple) → IsTriple triple → key ≡ triple_key Spo triple → IsSome (standing rows key) → ⊥
 
-nothing_stands : (rows : Rows) (key : Key) → has_nothing (rows key) ≡ true → standing rows key ≡ None
+pub nothing_stands : (rows : Rows) (key : Key) → has_nothing (rows key) ≡ true → standing rows key ≡ None
 nothing_stands rows key none = ap (λ (held : Row). put_of (newest (reading (committed rows) held.lock held.versions))) (no_row_is (rows key) none)
 
 named_otherwise : (rows : Rows) (key : Key) (name : KeyName) → IsName name → key ≡ key_of name → ((triple : Triple) → name ≡ row.Triple Spo triple → ⊥) → NoneAt rows key
@@ -73,7 +73,7 @@ record ListsOf (rows : Rows) (found : List (Key × Row)) (triples : List Triple)
   pub stand : (triple : Triple) → Contains triples triple → IsSome (standing rows (triple_key Spo triple))
   pub whole : (triple : Triple) (held : Row) → IsTriple triple → IsSome (standing rows (triple_key Spo triple)) → find bytes_cmp (triple_key Spo triple) found ≡ Some held → Contains triples triple
 
-found_here : (key : Key) (entry : Key × Row) (more : List (Key × Row)) (held : Row) → find bytes_cmp key (entry ∷ more) ≡ Some held → (key ≡ entry.0) ⊎ (find bytes_cmp key more ≡ Some held)
+pub found_here : (key : Key) (entry : Key × Row) (more : List (Key × Row)) (held : Row) → find bytes_cmp key (entry ∷ more) ≡ Some held → (key ≡ entry.0) ⊎ (find bytes_cmp key more ≡ Some held)
 found_here key entry more held is = by (eq_by_cmp bytes_cmp key entry.0) refl is
   where
     by : (b : Bool) → eq_by_cmp bytes_cmp key entry.0 ≡ b → cond b (Some entry.1) (find bytes_cmp key more) ≡ Some held → (key ≡ entry.0) ⊎ (find bytes_cmp key more ≡ Some held)
@@ -121,7 +121,7 @@ lists_of next rows decodes (entry ∷ more) = let (triples, lists) = lists_of ne
 -- ---- of a table
 
 -- where something stands, the table has a row
-has_row : (table : Table) (key : Key) → IsSome (standing (row_at table) key) → (held : Row) × (find bytes_cmp key (entries table) ≡ Some held)
+pub has_row : (table : Table) (key : Key) → IsSome (standing (row_at table) key) → (held : Row) × (find bytes_cmp key (entries table) ≡ Some held)
 has_row table key stands = by (find bytes_cmp key (entries table)) refl
   where
     at : row_at table key ≡ unwrap_or (find bytes_cmp key (entries table)) no_row
