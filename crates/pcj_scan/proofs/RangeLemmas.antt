@@ -28,7 +28,7 @@ use Rattle.pcj_scan.specs.Ranges.{AddsMatchOf, AddsNoRow, AreRead, IsAhead, IsRe
 use Rattle.pcj_scan.specs.Readers.{ReadsInPart, ReadsOn}
 use Rattle.pcj_scan.specs.Scans.{walked}
 use Rattle.pcj_scan.proofs.MatchLemmas.{all_among, first_among, none_read, range_read, read_among, row_read, second_among}
-use Rattle.pcj_scan.proofs.ReaderLemmas.{part_then, reads_nothing, reads_then}
+use Rattle.pcj_scan.proofs.ReaderLemmas.{in_part, part_then, reads_nothing, reads_then}
 use Rattle.pcj_scan.proofs.RowLemmas.{never_plain, no_more_rows, one_row_fewer, still_never_plain}
 
 -- ---- what a step meets
@@ -107,6 +107,10 @@ search_stays start before now after same so_far = subst (Searching start before)
 pub search_stops : (start : ℕ) (before now table after : Table) → table ≡ now → Searching start before now → ((start : ℕ) → ReadsInPart start (row_at table) (row_at after)) → ReadsInPart start (row_at before) (row_at after)
 search_stops start before now table after same so_far part =
     part_then start (row_at before) (row_at now) (row_at after) [] so_far.moves (subst (λ t. ReadsInPart start (row_at t) (row_at after)) same (part start))
+
+-- what it has read so far, where it goes no further
+pub search_so_far : (start : ℕ) (before now after : Table) → after ≡ now → Searching start before now → ReadsInPart start (row_at before) (row_at after)
+search_so_far start before now after same so_far = subst (λ t. ReadsInPart start (row_at before) (row_at t)) (sym same) (in_part start (row_at before) (row_at now) [] so_far.moves)
 
 -- it has found a row, or none
 pub search_finds : (start : ℕ) (before now after : Table) (from end key : Key) (value : List ℕ) → NeverHasPlain from end → after ≡ now → Searching start before now →

@@ -3,7 +3,7 @@ use Rattle.pcj_table.specs.Table.{row_at}
 use Rattle.pcj_snapshot.specs.Reads.{Read, read_event}
 use Rattle.pcj_pending.specs.Pending.{locks_of}
 use Rattle.pcj_scan.specs.Ranges.{IsAhead}
-use Rattle.pcj_scan.proofs.RangeLemmas.{IsMet, is_met, search_ends, search_finds, search_goes_on, search_stops, shown_by}
+use Rattle.pcj_scan.proofs.RangeLemmas.{IsMet, is_met, search_ends, search_finds, search_goes_on, search_so_far, search_stops, shown_by}
 use Rattle.pcj_scan.proofs.range.next_found.Goals as goal
 
 pub returns-in-Found-clause-read : goal.returns-in-Found-clause-read
@@ -52,3 +52,12 @@ loop-read-preserved g c =
 pub returns-in_err-take_away-in-MetLock-clause-part : goal.returns-in_err-take_away-in-MetLock-clause-part
 returns-in_err-take_away-in-MetLock-clause-part g c =
     search_stops c.args.at (g.T.RowTable.rows c.args.table.now) (g.T.RowTable.rows c.loop-read.table) (g.T.RowTable.rows c.step.new.table) (g.T.RowTable.rows c.take_away.new.table) c.step.ensures.rows c.loop-read.invariant.0 c.take_away.ensures.part
+
+pub returns-in_err-pair-clause-part : goal.returns-in_err-pair-clause-part
+returns-in_err-pair-clause-part g c = search_so_far c.args.at (g.T.RowTable.rows c.args.table.now) (g.T.RowTable.rows c.loop-read.table) (g.T.RowTable.rows c.step.new.table) c.step.ensures.rows c.loop-read.invariant.0
+
+pub returns-in-Found-clause-part : goal.returns-in-Found-clause-part
+returns-in-Found-clause-part g c = search_so_far c.args.at (g.T.RowTable.rows c.args.table.now) (g.T.RowTable.rows c.loop-read.table) (g.T.RowTable.rows c.step.new.table) c.step.ensures.rows c.loop-read.invariant.0
+
+pub returns-in-Nothing-clause-part : goal.returns-in-Nothing-clause-part
+returns-in-Nothing-clause-part g c = search_so_far c.args.at (g.T.RowTable.rows c.args.table.now) (g.T.RowTable.rows c.loop-read.table) (g.T.RowTable.rows c.step.new.table) c.step.ensures.rows c.loop-read.invariant.0
