@@ -39,7 +39,7 @@ nodes_long (filtered {inners = inners} condition inner first i order) = long_one
 nodes_long (united {lefts = lefts} {rights = rights} left right first second l r order) =
     long_pair lefts rights _ ∙ (let size = size_union left right in let ls = nodes_long l in let rs = nodes_long r in omega (arith, size, ls, rs))
 
-tree_fits : (tree : Tree) → IsQueryTree tree → 1 + length tree.nodes ≤ 2 ^ 16
+pub tree_fits : (tree : Tree) → IsQueryTree tree → 1 + length tree.nodes ≤ 2 ^ 16
 tree_fits tree is =
     let long : length tree.nodes ≡ length is.is.parts + 1 = ap length is.is.nodes ∙ long_one is.is.parts _ in
     let parts = nodes_long is.is.are_parts in

@@ -17,6 +17,7 @@ mod tree;
 pub use building::build;
 pub use laws::{nodes_mean_their_parts, one_stored_form, rows_are_solutions, trees_can_be_stored};
 pub use node::{Node, NodeKind};
+pub use parts::push_slot;
 pub use reading::read_tree;
 pub use sizes::can_build;
 pub use storing::store_tree;

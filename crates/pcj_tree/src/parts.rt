@@ -28,7 +28,8 @@ pub(crate) fn push_number(
     push_bytes(alloc, parts, &number.to_be_bytes())
 }
 
-pub(crate) fn push_slot(alloc: Global, parts: &mut Items<Bytes>, slot: &Slot) -> Result<(), Memory>
+/// Adds a slot as it is stored: a question mark and the name of a variable, or a printed term.
+pub fn push_slot(alloc: Global, parts: &mut Items<Bytes>, slot: &Slot) -> Result<(), Memory>
     ensures { OnOk result (parts.new ≡ parts.old ++ slot_part slot.now ∷ []) }
 {
     match slot {
