@@ -1,0 +1,4 @@
+use Rattle.pcj_rebuild.proofs.parts.+part_of.Given as goal
+
+abbrev pub decreases-part_of : goal.decreases-part_of
+decreases-part_of l = l.number
