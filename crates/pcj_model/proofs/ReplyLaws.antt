@@ -3,6 +3,7 @@ use Rattle.std.proofs.Common.{◌≡◌, ℕ, Bool, true, false, List, [], ◌�
 use Rattle.std.specs.Prelude.{not, ◌&&◌}
 use Rattle.std.proofs.lemmas.Bool.{and_parts}
 use Rattle.pcj_term.specs.declared.triple.Triple.{Triple}
+use Rattle.pcj_algebra.specs.declared.query.Query.{Query}
 use Rattle.pcj_ntriples.specs.Document.{Document}
 use Rattle.pcj_ntriples.proofs.Laws.{says_one_thing}
 use Rattle.pcj_script.specs.declared.command.Crashed.{Crashed}
@@ -10,11 +11,12 @@ use Rattle.pcj_script.specs.declared.command.Crashed.TheVariants as whose
 use Rattle.pcj_script.specs.Commands.{Command}
 use Rattle.pcj_script.specs.Commands.Command.{Load, Register, StepClient, Crash, Status as AsksStatus, Answers, Scan}
 use Rattle.pcj_model.specs.Job.{Job, StepsEnd, steps_lines, job_after}
-use Rattle.pcj_model.specs.Job.StepsEnd.{AllMade, IsDone, IsAborted, Fails}
+use Rattle.pcj_model.specs.Job.Content.{Load as Loads, Registration as Registers}
+use Rattle.pcj_model.specs.Job.StepsEnd.{AllMade, IsDone, IsAborted, IsTaken, Fails}
 use Rattle.pcj_model.specs.Line.{Line}
-use Rattle.pcj_model.specs.Line.Event.{Loaded, Registered, Committed, Steps}
+use Rattle.pcj_model.specs.Line.Event.{Loaded, Registered, Steps}
 use Rattle.pcj_model.specs.Line.Line.{Client, Status, Row, Rows, NoQuery, ScanRefused}
-use Rattle.pcj_model.specs.State.{State, with_jobs, all_beside, with_load, with_last, with_query, with_status, stepped}
+use Rattle.pcj_model.specs.State.{State, with_jobs, all_beside, opened, with_status, stepped}
 use Rattle.pcj_model.specs.Reply.{Language, Reply, answer_lines, crash_line}
 use Rattle.pcj_model.specs.Laws.{RepliesTell}
 use Rattle.pcj_model.proofs.StepLaws.{commit_in, end_in, count_in, commit_told, end_told, count_told}
@@ -27,7 +29,7 @@ opened_in lines = None
 
 abbrev LoadLeaves : State → ℕ → List ℕ → Option ℕ → State → Type 0
 LoadLeaves old client text None new = new ≡ old
-LoadLeaves old client text (Some number) new = (triples : List Triple) × Document text number triples × (new ≡ with_load old client number triples)
+LoadLeaves old client text (Some number) new = (triples : List Triple) × Document text number triples × (new ≡ opened old client number (Loads triples))
 
 load_leaves : (language : Language) (old : State) (client : ℕ) (text : List ℕ) (lines : List Line) (new : State) → Reply language old (Load client text) lines new → LoadLeaves old client text (opened_in lines) new
 load_leaves language old client text lines new (inl a) = subst (λ ls. LoadLeaves old client text (opened_in ls) new) (sym a.told) a.same
@@ -37,21 +39,20 @@ load_leaves language old client text lines new (inr (inr (inr a))) = subst (λ l
 
 one_load : (old : State) (client : ℕ) (text : List ℕ) (opened : Option ℕ) (new other : State) → LoadLeaves old client text opened new → LoadLeaves old client text opened other → new ≡ other
 one_load old client text None new other a b = a ∙ sym b
-one_load old client text (Some number) new other a b = a.2 ∙ ap (λ ts. with_load old client number ts) (says_one_thing text number a.0 b.0 a.1 b.1) ∙ sym b.2
+one_load old client text (Some number) new other a b = a.2 ∙ ap (λ ts. opened old client number (Loads ts)) (says_one_thing text number a.0 b.0 a.1 b.1) ∙ sym b.2
 
 -- ---- register
 
-abbrev register_left : State → List ℕ → List ℕ → List Line → State
-register_left old name text (Client client (Registered number named) ∷ Client other (Committed commit) ∷ lines) = with_query old name number text
-register_left old name text (Client client (Registered number named) ∷ lines) = with_last old number
-register_left old name text lines = old
+abbrev register_left : State → ℕ → List ℕ → Query → List Line → State
+register_left old client name query (Client other (Registered number named) ∷ lines) = opened old client number (Registers name query)
+register_left old client name query lines = old
 
-register_leaves : (language : Language) (old : State) (client : ℕ) (name text : List ℕ) (lines : List Line) (new : State) → Reply language old (Register client name text) lines new → new ≡ register_left old name text lines
-register_leaves language old client name text lines new (inl a) = a.same ∙ ap (register_left old name text) (sym a.told)
-register_leaves language old client name text lines new (inr (inl a)) = a.same ∙ ap (register_left old name text) (sym a.told)
-register_leaves language old client name text lines new (inr (inr (inl a))) = a.registered ∙ ap (register_left old name text) (sym a.told)
-register_leaves language old client name text lines new (inr (inr (inr (inl a)))) = a.numbered ∙ ap (register_left old name text) (sym a.told)
-register_leaves language old client name text lines new (inr (inr (inr (inr a)))) = a.same ∙ ap (register_left old name text) (sym a.told)
+register_leaves : (language : Language) (old : State) (client : ℕ) (name text : List ℕ) (lines : List Line) (new : State) → Reply language old (Register client name text) lines new →
+    new ≡ register_left old client name (language.query_of text) lines
+register_leaves language old client name text lines new (inl a) = a.same ∙ ap (register_left old client name (language.query_of text)) (sym a.told)
+register_leaves language old client name text lines new (inr (inl a)) = a.same ∙ ap (register_left old client name (language.query_of text)) (sym a.told)
+register_leaves language old client name text lines new (inr (inr (inl a))) = a.opened ∙ ap (register_left old client name (language.query_of text)) (sym a.told)
+register_leaves language old client name text lines new (inr (inr (inr a))) = a.same ∙ ap (register_left old client name (language.query_of text)) (sym a.told)
 
 -- ---- step
 
@@ -81,28 +82,28 @@ status_left old lines = old
 
 abbrev answers_left : State → List Line → State
 answers_left old (NoQuery name ∷ lines) = old
-answers_left old lines = with_jobs old (all_beside [] old.jobs)
+answers_left old lines = with_jobs old (all_beside [] [] old.jobs)
 
-answered_left : (old : State) (rows : List (List ℕ)) → answers_left old (answer_lines rows) ≡ with_jobs old (all_beside [] old.jobs)
+answered_left : (old : State) (rows : List (List ℕ)) → answers_left old (answer_lines rows) ≡ with_jobs old (all_beside [] [] old.jobs)
 answered_left old [] = refl
 answered_left old (row ∷ rows) = refl
 
 answers_leave : (language : Language) (old : State) (name : List ℕ) (lines : List Line) (new : State) → Reply language old (Answers name) lines new → new ≡ answers_left old lines
 answers_leave language old name lines new (inl a) = a.same ∙ ap (answers_left old) (sym a.told)
-answers_leave language old name lines new (inr (inl a)) = a.met ∙ sym (answered_left old (language.rows a.registration.text old.triples)) ∙ ap (answers_left old) (sym a.told)
+answers_leave language old name lines new (inr (inl a)) = a.met ∙ sym (answered_left old (language.rows a.registration.query old.triples)) ∙ ap (answers_left old) (sym a.told)
 answers_leave language old name lines new (inr (inr a)) = a.met ∙ ap (answers_left old) (sym a.told)
 
 abbrev scan_left : State → List Line → State
 scan_left old (ScanRefused place kind ∷ lines) = old
-scan_left old lines = with_jobs old (all_beside [] old.jobs)
+scan_left old lines = with_jobs old (all_beside [] [] old.jobs)
 
-scanned_left : (old : State) (rows : List (List ℕ)) → scan_left old (answer_lines rows) ≡ with_jobs old (all_beside [] old.jobs)
+scanned_left : (old : State) (rows : List (List ℕ)) → scan_left old (answer_lines rows) ≡ with_jobs old (all_beside [] [] old.jobs)
 scanned_left old [] = refl
 scanned_left old (row ∷ rows) = refl
 
 scan_leaves : (language : Language) (old : State) (text : List ℕ) (lines : List Line) (new : State) → Reply language old (Scan text) lines new → new ≡ scan_left old lines
 scan_leaves language old text lines new (inl a) = a.same ∙ ap (scan_left old) (sym a.told)
-scan_leaves language old text lines new (inr (inl a)) = a.met ∙ sym (scanned_left old (language.rows text old.triples)) ∙ ap (scan_left old) (sym a.told)
+scan_leaves language old text lines new (inr (inl a)) = a.met ∙ sym (scanned_left old (language.rows (language.query_of text) old.triples)) ∙ ap (scan_left old) (sym a.told)
 scan_leaves language old text lines new (inr (inr a)) = a.met ∙ ap (scan_left old) (sym a.told)
 
 status_leaves : (language : Language) (old : State) (lines : List Line) (new : State) → Reply language old AsksStatus lines new → new ≡ status_left old lines
@@ -125,7 +126,6 @@ replies_tell language old (Scan text) lines new other a b = scan_leaves language
 -- ---- where a reply ends
 
 abbrev pub closes : Command → Line → Bool
-closes (Register client name text) (Client other (Registered number named)) = false
 closes (StepClient client most) (Client other (Steps count)) = true
 closes (StepClient client most) line = false
 closes (Answers name) (Row row) = false
@@ -142,10 +142,12 @@ steps_end : (client most : ℕ) (commit : Option ℕ) (end : StepsEnd) (count : 
 steps_end client most None AllMade count = refl
 steps_end client most None IsDone count = refl
 steps_end client most None IsAborted count = refl
+steps_end client most None IsTaken count = refl
 steps_end client most None Fails count = refl
 steps_end client most (Some commit) AllMade count = refl
 steps_end client most (Some commit) IsDone count = refl
 steps_end client most (Some commit) IsAborted count = refl
+steps_end client most (Some commit) IsTaken count = refl
 steps_end client most (Some commit) Fails count = refl
 
 rows_end : (name : List ℕ) (rows : List (List ℕ)) (count : ℕ) → ends_first (closes (Answers name)) (map Row rows ++ Rows count ∷ []) ≡ true
@@ -174,8 +176,7 @@ replies_end language old (Load client text) lines new (inr (inr (inr a))) = subs
 replies_end language old (Register client name text) lines new (inl a) = subst (Ends (Register client name text)) (sym a.told) refl
 replies_end language old (Register client name text) lines new (inr (inl a)) = subst (Ends (Register client name text)) (sym a.told) refl
 replies_end language old (Register client name text) lines new (inr (inr (inl a))) = subst (Ends (Register client name text)) (sym a.told) refl
-replies_end language old (Register client name text) lines new (inr (inr (inr (inl a)))) = subst (Ends (Register client name text)) (sym a.told) refl
-replies_end language old (Register client name text) lines new (inr (inr (inr (inr a)))) = subst (Ends (Register client name text)) (sym a.told) refl
+replies_end language old (Register client name text) lines new (inr (inr (inr a))) = subst (Ends (Register client name text)) (sym a.told) refl
 replies_end language old (StepClient client most) lines new (inl a) = subst (Ends (StepClient client most)) (sym a.told) refl
 replies_end language old (StepClient client most) lines new (inr a) = subst (Ends (StepClient client most)) (sym a.steps.told) (steps_end client most a.commit a.steps.end a.steps.count)
 replies_end language old (Crash crashed) lines new a = subst (Ends (Crash crashed)) (sym a.told) (crash_ends crashed)
@@ -183,12 +184,12 @@ replies_end language old AsksStatus lines new (inl a) = subst (Ends AsksStatus) 
 replies_end language old AsksStatus lines new (inr a) = subst (Ends AsksStatus) (sym a.told) refl
 replies_end language old (Answers name) lines new (inl a) = subst (Ends (Answers name)) (sym a.told) refl
 replies_end language old (Answers name) lines new (inr (inl a)) =
-    let rows = language.rows a.registration.text old.triples in
+    let rows = language.rows a.registration.query old.triples in
     subst (Ends (Answers name)) (sym a.told) (rows_end name rows (length rows))
 replies_end language old (Answers name) lines new (inr (inr a)) = subst (Ends (Answers name)) (sym a.told) refl
 replies_end language old (Scan text) lines new (inl a) = subst (Ends (Scan text)) (sym a.told) refl
 replies_end language old (Scan text) lines new (inr (inl a)) =
-    let rows = language.rows text old.triples in
+    let rows = language.rows (language.query_of text) old.triples in
     subst (Ends (Scan text)) (sym a.told) (scan_rows_end text rows (length rows))
 replies_end language old (Scan text) lines new (inr (inr a)) = subst (Ends (Scan text)) (sym a.told) refl
 

@@ -12,7 +12,8 @@ use Rattle.pcj_model.specs.declared.ending.Ending.TheVariants.{Ended, Refused, S
 use Rattle.pcj_model.specs.Job.{Job}
 use Rattle.pcj_model.specs.Line.{Line, printed}
 use Rattle.pcj_model.specs.Line.Line.{Script, Spent as SaysSpent}
-use Rattle.pcj_model.specs.State.{Registration, State, query_named}
+use Rattle.pcj_model.specs.Queries.{Registration, named}
+use Rattle.pcj_model.specs.State.{State}
 use Rattle.pcj_model.specs.Reply.{Language, Reply}
 use Rattle.pcj_model.specs.Run.{Run, Cut, all_lines}
 
@@ -36,15 +37,15 @@ pub record Tells (language : Language) (start : State) (commands : List Command)
 
 -- ---- timestamps at their end
 
--- a timestamp is drawn for the command: it opens a load or registers a query, a load that isn't committed goes on, or an
--- answer is read
+-- a timestamp is drawn for the command: it opens a load or a registration, a job that isn't committed goes on, or an answer is
+-- read
 abbrev pub MayDraw : Language → State → Command → Type 0
 MayDraw language old (Load client text) = (old.jobs client ≡ None) × ((line : ℕ) (kind : NtKind) → DocumentFault text line kind → ⊥)
 MayDraw language old (Register client name text) = (old.jobs client ≡ None) × (language.register_refusal text ≡ None)
 MayDraw language old (StepClient client most) = (job : Job) × (old.jobs client ≡ Some job) × (job.is_committed ≡ false)
 MayDraw language old (Crash crashed) = ⊥
 MayDraw language old AsksStatus = ⊥
-MayDraw language old (Answers name) = (registration : Registration) × (query_named old name ≡ Some registration)
+MayDraw language old (Answers name) = (registration : Registration) × (named name old.queries ≡ Some registration)
 MayDraw language old (Scan text) = language.scan_refusal text ≡ None
 
 -- The commands before one were carried out, and for that one 2^48 would be drawn. It has told nothing: a step has drawn no

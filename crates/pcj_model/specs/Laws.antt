@@ -1,10 +1,14 @@
 -- What was said can be told from its print, line by line, and what a run has come to from what was said.
 use Rattle.std.specs.Prelude.{◌≡◌, ◌⊎◌, ℕ, ◌+◌, ◌<◌, ◌≤◌, ◌^◌, Bool, true, false, not, ◌&&◌, ◌==◌, nat_le, List, [], ◌∷◌, ◌++◌, map, Option, Some, None}
 use Rattle.std.specs.List.{list_all, list_any, slice_split, AllByRecursion, Contains}
+use Rattle.pcj_term.specs.declared.triple.Triple.{Triple}
 use Rattle.pcj_term.specs.Triple.{Joins}
+use Rattle.pcj_algebra.specs.declared.query.Query.{Query}
 use Rattle.pcj_script.specs.Commands.{Command}
 use Rattle.pcj_script.specs.Commands.Command.{Load, Register, StepClient, Crash, Status as AsksStatus, Answers, Scan}
 use Rattle.pcj_model.specs.Job.{Job, StepsReply}
+use Rattle.pcj_model.specs.Job.Content.{Load as Loads, Registration as Registers}
+use Rattle.pcj_model.specs.Queries.{AreNamedApart, Registration, named, placed}
 use Rattle.pcj_model.specs.State.{State}
 use Rattle.pcj_model.specs.Reply.{Language, Reply}
 use Rattle.pcj_model.specs.Run.{Run, all_lines}
@@ -86,8 +90,8 @@ TextsTell = (line other : Line) → IsClear line → IsClear other → line_text
 
 -- the lines of a command's steps tell whether the job was committed, with which number, and what is left of it
 abbrev pub AreTold : Type 0
-AreTold = (job : Job) (client most : ℕ) (lines : List Line) (commit other : Option ℕ) (after left : Option Job) →
-    StepsReply job client most lines commit after → StepsReply job client most lines other left → (commit ≡ other) × (after ≡ left)
+AreTold = (queries : List Registration) (job : Job) (client most : ℕ) (lines : List Line) (commit other : Option ℕ) (after left : Option Job) →
+    StepsReply queries job client most lines commit after → StepsReply queries job client most lines other left → (commit ≡ other) × (after ≡ left)
 
 -- ---- replies
 
@@ -99,12 +103,37 @@ RepliesTell = (language : Language) (old : State) (command : Command) (lines : L
 -- the triples of a load in flight have joined, all of them, and its `committed` line stands among these
 abbrev pub JoinsWhole : State → List Line → State → Type 0
 JoinsWhole old lines new =
-    (client : ℕ) × (job : Job) × (commit : ℕ) × (old.jobs client ≡ Some job) × Contains lines (Client client (Committed commit)) × Joins old.triples new.triples job.triples
+    (client : ℕ) × (job : Job) × (commit : ℕ) × (triples : List Triple) × (old.jobs client ≡ Some job) × (job.content ≡ Loads triples)
+    × Contains lines (Client client (Committed commit)) × Joins old.triples new.triples triples
 
 -- no command changes the triples but by the commit of one load, which is told
 abbrev pub LoadsJoinWhole : Type 0
 LoadsJoinWhole = (language : Language) (old : State) (command : Command) (lines : List Line) (new : State) →
     Reply language old command lines new → (new.triples ≡ old.triples) ⊎ JoinsWhole old lines new
+
+-- the query of a registration in flight has joined at its place, under a name that none had, and its `committed` line stands among
+-- these
+pub record QueryJoins (old : State) (lines : List Line) (new : State) : Type 0 where
+  pub client : ℕ
+  pub job : Job
+  pub commit : ℕ
+  pub name : List ℕ
+  pub query : Query
+  pub has : old.jobs client ≡ Some job
+  pub of : job.content ≡ Registers name query
+  pub told : Contains lines (Client client (Committed commit))
+  pub free : named name old.queries ≡ None
+  pub joined : new.queries ≡ placed (record { name = name; number = job.start; query = query }) old.queries
+
+-- no command changes the queries but by the commit of one registration, which is told
+abbrev pub QueriesJoin : Type 0
+QueriesJoin = (language : Language) (old : State) (command : Command) (lines : List Line) (new : State) →
+    Reply language old command lines new → (new.queries ≡ old.queries) ⊎ QueryJoins old lines new
+
+-- no command gives two queries one name
+abbrev pub NamesStayApart : Type 0
+NamesStayApart = (language : Language) (old : State) (command : Command) (lines : List Line) (new : State) →
+    Reply language old command lines new → AreNamedApart old.queries → AreNamedApart new.queries
 
 -- it asks for a step at least, as each command of a script does
 abbrev pub AsksSteps : Command → Type 0
@@ -163,16 +192,22 @@ RunsHaveFronts = (language : Language) (old new : State) (front back : List Comm
     Run language old (front ++ back) transcript new → IsCutBehind language old front back transcript new
 
 -- a load begins with this line
-abbrev pub is_opening : Line → Bool
-is_opening (Client client (Loaded number triples)) = true
-is_opening line = false
+abbrev pub opens_load : Line → Bool
+opens_load (Client client (Loaded number triples)) = true
+opens_load line = false
 
--- Where nobody has a load in flight, as after a crash of all, no triple joins before a load begins: what was in flight
--- has gone for good.
+-- a registration begins with this line
+abbrev pub opens_registration : Line → Bool
+opens_registration (Client client (Registered number name)) = true
+opens_registration line = false
+
+-- Where nobody has a job in flight, as after a crash of all, no triple joins before a load begins, and no query before a
+-- registration does: what was in flight has gone for good.
 abbrev pub NothingIsLeft : Type 0
 NothingIsLeft = (language : Language) (old : State) (commands : List Command) (transcript : List (List Line)) (new : State) →
-    Run language old commands transcript new → ((client : ℕ) → old.jobs client ≡ None) → list_any is_opening (all_lines transcript) ≡ false →
-    new.triples ≡ old.triples
+    Run language old commands transcript new → ((client : ℕ) → old.jobs client ≡ None) →
+    (list_any opens_load (all_lines transcript) ≡ false → new.triples ≡ old.triples)
+    × (list_any opens_registration (all_lines transcript) ≡ false → new.queries ≡ old.queries)
 
 -- the greatest timestamp that was told doesn't fall, and is one
 abbrev pub TimestampsRise : Type 0

@@ -24,7 +24,7 @@ all_lines transcript = flat_map (λ lines. lines) transcript
 
 -- ---- a command that is cut
 
--- the load of a client was committed, which is told, and no more is
+-- the job of a client was committed, which is told, and no more is
 pub record CutsSteps (old : State) (command : Command) (lines : List Line) (new : State) : Type 0 where
   pub client : ℕ
   pub most : ℕ
@@ -32,13 +32,13 @@ pub record CutsSteps (old : State) (command : Command) (lines : List Line) (new 
   pub job : Job
   pub has : old.jobs client ≡ Some job
   pub commit : ℕ
-  pub commits : MayCommit job (Some commit)
+  pub commits : MayCommit old.queries job (Some commit)
   pub count : ℕ
   pub tried : 1 ≤ count
   pub counted : count ≤ most
   pub told : lines ≡ Client client (Committed commit) ∷ []
   pub left : new ≡ stepped old client job (Some commit) (Some (grown job (Some commit) count)) count
 
--- a command that is cut has told nothing, and no triple joined; or else a load was committed
+-- a command that is cut has told nothing, and nothing joined; or else a job was committed
 abbrev pub Cut : State → Command → List Line → State → Type 0
 Cut old command lines new = ((lines ≡ []) × (new ≡ old)) ⊎ CutsSteps old command lines new

@@ -1,15 +1,9 @@
 -- What a reader of the transcript knows after some commands. It speaks of no row, no lock's key and no oracle.
-use Rattle.std.specs.Prelude.{ℕ, ◌+◌, ◌-◌, Bool, false, not, ◌&&◌, ◌||◌, ◌==◌, List, [], ◌∷◌, ◌++◌, max, filter, Option, Some, None, option_map, if◌then◌else◌}
-use Rattle.std.specs.List.{find}
+use Rattle.std.specs.Prelude.{ℕ, ◌+◌, ◌-◌, Bool, false, not, ◌&&◌, ◌||◌, ◌==◌, List, [], ◌++◌, max, filter, Option, Some, None, option_map, if◌then◌else◌}
 use Rattle.pcj_term.specs.declared.triple.Triple.{Triple}
-use Rattle.pcj_term.specs.Order.{same_bytes}
-use Rattle.pcj_model.specs.Job.{Job, beside, is_among, new_job}
-
--- a registered query
-pub record Registration : Type 0 where
-  pub name : List ℕ
-  pub number : ℕ
-  pub text : List ℕ
+use Rattle.pcj_model.specs.Job.{Content, Job, beside, is_among, names_of, new_job, triples_of}
+use Rattle.pcj_model.specs.Job.Content.{Load as Loads, Registration as Registers}
+use Rattle.pcj_model.specs.Queries.{Registration, placed}
 
 -- what is known of the locks and notifications that stand
 pub record Backlog : Type 0 where
@@ -27,18 +21,18 @@ pub record State : Type 0 where
   pub triples : List Triple
   -- the registered queries, in the order of their numbers
   pub queries : List Registration
-  -- the load that a client has in flight, if it has one
+  -- the job that a client has in flight, if it has one
   pub jobs : ℕ → Option Job
   -- the greatest timestamp that was told
   pub last : ℕ
   pub backlog : Backlog
 
--- Before the first command: these triples are committed, this is the number that is granted first, and so many
--- notifications and locks stand. Nobody has a load in flight, and no query is registered.
-abbrev pub start_state : List Triple → ℕ → ℕ → ℕ → State
-start_state triples first notifications locks = record {
+-- Before the first command: these triples are committed, these queries are registered, this is the number that is granted first,
+-- and so many notifications and locks stand. Nobody has a job in flight.
+abbrev pub start_state : List Triple → List Registration → ℕ → ℕ → ℕ → State
+start_state triples queries first notifications locks = record {
   triples = triples;
-  queries = [];
+  queries = queries;
   jobs = λ client. None;
   last = first - 1;
   backlog = record {
@@ -49,10 +43,6 @@ start_state triples first notifications locks = record {
   };
 }
 
--- the query that is registered under a name
-abbrev pub query_named : State → List ℕ → Option Registration
-query_named state name = find (λ registration. same_bytes name registration.name) state.queries
-
 -- ---- what changes
 
 abbrev pub with_jobs : State → (ℕ → Option Job) → State
@@ -62,31 +52,17 @@ with_jobs old jobs = record { triples = old.triples; queries = old.queries; jobs
 abbrev pub with_job : (ℕ → Option Job) → ℕ → Option Job → (ℕ → Option Job)
 with_job jobs client job = λ other. if other == client then job else jobs other
 
--- somebody made a step beside these jobs, with which these triples joined
-abbrev pub all_beside : List Triple → (ℕ → Option Job) → (ℕ → Option Job)
-all_beside joined jobs = λ client. option_map (beside joined) (jobs client)
+-- somebody made a step beside these jobs, with which these triples joined and these names were taken
+abbrev pub all_beside : List Triple → List (List ℕ) → (ℕ → Option Job) → (ℕ → Option Job)
+all_beside joined names jobs = λ client. option_map (beside joined names) (jobs client)
 
--- a load begins
-abbrev pub with_load : State → ℕ → ℕ → List Triple → State
-with_load old client number triples = record {
+-- a job begins
+abbrev pub opened : State → ℕ → ℕ → Content → State
+opened old client number content = record {
   triples = old.triples;
   queries = old.queries;
-  jobs = with_job old.jobs client (Some (new_job number triples));
+  jobs = with_job old.jobs client (Some (new_job number content));
   last = number;
-  backlog = old.backlog;
-}
-
--- a number was told
-abbrev pub with_last : State → ℕ → State
-with_last old last = record { triples = old.triples; queries = old.queries; jobs = old.jobs; last = last; backlog = old.backlog }
-
--- a query is registered, and the number after its own is its commit
-abbrev pub with_query : State → List ℕ → ℕ → List ℕ → State
-with_query old name number text = record {
-  triples = old.triples;
-  queries = old.queries ++ record { name = name; number = number; text = text } ∷ [];
-  jobs = old.jobs;
-  last = number + 1;
   backlog = old.backlog;
 }
 
@@ -110,18 +86,33 @@ with_status old notifications locks = record {
 -- the triples that join with a job's commit, if it comes: those that aren't there yet
 abbrev pub joined_by : State → Job → Option ℕ → List Triple
 joined_by old job None = []
-joined_by old job (Some commit) = filter (λ triple. not (is_among old.triples triple)) job.triples
+joined_by old job (Some commit) = filter (λ triple. not (is_among old.triples triple)) (triples_of job.content)
+
+-- the names that are taken with a job's commit, if it comes
+abbrev pub names_joined : Job → Option ℕ → List (List ℕ)
+names_joined job None = []
+names_joined job (Some commit) = names_of job.content
+
+-- these queries, and that of a registration with its number
+abbrev pub with_content : List Registration → ℕ → Content → List Registration
+with_content queries number (Loads triples) = queries
+with_content queries number (Registers name query) = placed (record { name = name; number = number; query = query }) queries
+
+-- the queries behind a job's commit, if it comes
+abbrev pub queries_after : List Registration → Job → Option ℕ → List Registration
+queries_after queries job None = queries
+queries_after queries job (Some commit) = with_content queries job.start job.content
 
 abbrev pub last_after : ℕ → Option ℕ → ℕ
 last_after last None = last
 last_after last (Some commit) = max last commit
 
--- A client tried so many steps. Its job's triples have joined with its commit, if that came, and this is left of the job.
+-- A client tried so many steps. Its job's triples or its query have joined with its commit, if that came, and this is left of the job.
 abbrev pub stepped : State → ℕ → Job → Option ℕ → Option Job → ℕ → State
 stepped old client job commit after count = record {
   triples = old.triples ++ joined_by old job commit;
-  queries = old.queries;
-  jobs = with_job (all_beside (joined_by old job commit) old.jobs) client after;
+  queries = queries_after old.queries job commit;
+  jobs = with_job (all_beside (joined_by old job commit) (names_joined job commit) old.jobs) client after;
   last = last_after old.last commit;
   backlog = record {
     most_locks = old.backlog.most_locks + count;

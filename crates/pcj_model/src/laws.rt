@@ -1,4 +1,4 @@
-ghost use Rattle.pcj_model.specs.Laws.{StandApart, TextsTell, AreTold, RepliesTell, LoadsJoinWhole, CanBeAnswered, TranscriptsTell, PrintsTell, RunsGoOn, RunsHaveFronts, NothingIsLeft, TimestampsRise, EndsAreTold, EndsStand};
+ghost use Rattle.pcj_model.specs.Laws.{StandApart, TextsTell, AreTold, RepliesTell, LoadsJoinWhole, QueriesJoin, NamesStayApart, CanBeAnswered, TranscriptsTell, PrintsTell, RunsGoOn, RunsHaveFronts, NothingIsLeft, TimestampsRise, EndsAreTold, EndsStand};
 
 /// The lines of a print are the lines that were printed, one after another: no line has an LF inside, where no name and no
 /// row has one.
@@ -27,13 +27,20 @@ pub fn loads_join_whole()
     ensures { LoadsJoinWhole }
 {}
 
+/// No command changes the queries but a registration's commit, with which its query joins at its place, and which is told
+/// (`join`). No two queries come to have one name (`apart`).
+pub fn queries_join()
+    ensures join { QueriesJoin }
+    ensures apart { NamesStayApart }
+{}
+
 /// Each command can be answered in each state, without a fault, while there are timestamps.
 pub fn commands_are_answered()
     ensures { CanBeAnswered }
 {}
 
 /// What a run came to can be told from its lines alone, one after another (`lines`), and so from its print (`print`): which
-/// of them answer which command, which loads are committed, and what is in flight.
+/// of them answer which command, which loads and registrations are committed, and what is in flight.
 pub fn transcripts_are_told()
     ensures lines { TranscriptsTell }
     ensures print { PrintsTell }
@@ -45,8 +52,9 @@ pub fn runs_go_on()
     ensures fronts { RunsHaveFronts }
 {}
 
-/// After a crash of all nothing is left of the loads that were in flight: no triple joins before another load begins.
-pub fn crashed_loads_are_gone()
+/// After a crash of all nothing is left of the jobs that were in flight: no triple joins before another load begins, and no query
+/// before another registration.
+pub fn crashed_jobs_are_gone()
     ensures { NothingIsLeft }
 {}
 
@@ -55,7 +63,8 @@ pub fn timestamps_rise()
     ensures { TimestampsRise }
 {}
 
-/// Where a run was told whole, what is written settles the state that it leaves: the triples of its committed loads.
+/// Where a run was told whole, what is written settles the state that it leaves: the triples of its committed loads, and the
+/// queries of its committed registrations.
 pub fn endings_are_told()
     ensures { EndsAreTold }
 {}

@@ -18,9 +18,9 @@ mod print;
 pub use ending::Ending;
 pub use event::Event;
 pub use laws::{
-    commands_are_answered, crashed_loads_are_gone, endings_are_told, endings_stand,
-    lines_stand_apart, loads_join_whole, replies_are_told, runs_go_on, steps_are_told,
-    texts_tell_lines, timestamps_rise, transcripts_are_told,
+    commands_are_answered, crashed_jobs_are_gone, endings_are_told, endings_stand,
+    lines_stand_apart, loads_join_whole, queries_join, replies_are_told, runs_go_on,
+    steps_are_told, texts_tell_lines, timestamps_rise, transcripts_are_told,
 };
 pub use line::Line;
 pub use print::{push_line, push_lines};
