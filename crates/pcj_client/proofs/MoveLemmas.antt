@@ -1,7 +1,5 @@
--- What a load's step is to others, and how far it goes.
-use Rattle.std.proofs.Common.{◌≡◌, ◌⊎◌, ◌≤◌, ◌+◌, inl, inr, ℕ, zero, suc, List, [], ◌∷◌, ◌++◌, length, Option, Some, refl, ap, sym, subst, ◌∙◌, arith}
-use Rattle.std.specs.List.{slice_get}
-use Rattle.pcj_term.specs.declared.triple.Triple.{Triple}
+-- What a job's step is to others, and how far it goes.
+use Rattle.std.proofs.Common.{◌≡◌, ◌⊎◌, ◌≤◌, ◌+◌, inl, inr, ℕ, List, [], ◌∷◌, ◌++◌, length, Option, refl, ap, sym, subst, ◌∙◌, arith}
 use Rattle.pcj_table.specs.Table.{Table, row_at}
 use Rattle.pcj_table.specs.declared.write.Write.{Write}
 use Rattle.pcj_oracle.specs.Clock.{next_number}
@@ -21,36 +19,14 @@ use Rattle.pcj_recover.specs.declared.event.RecoveryEvent.TheVariants as recover
 use Rattle.pcj_actor.specs.StepLaws.{state_of}
 use Rattle.pcj_actor.specs.declared.event.ActorEvent.{ActorEvent}
 use Rattle.pcj_actor.specs.declared.event.ActorEvent.TheVariants as event
-use Rattle.pcj_actor.specs.declared.task.Task.{Task}
-use Rattle.pcj_actor.specs.declared.task.Task.TheVariants.{Rest, Get, Next, Put, Write as Writes}
-use Rattle.pcj_actor.specs.Progress.{AreStepMoves, Carries, IsDrawing as ActorDraws, IsOfStart, Progress, Tells, transaction_of, with_recovered, with_task}
+use Rattle.pcj_actor.specs.declared.task.Task.TheVariants.{Write as Writes}
+use Rattle.pcj_actor.specs.Progress.{AreStepMoves, Carries, IsDrawing as ActorDraws, Progress, Tells, transaction_of, with_recovered, with_task}
 use Rattle.pcj_actor.proofs.ActorLemmas.{makes_then}
 use Rattle.pcj_fit.specs.Laws.{AreSteady}
 use Rattle.pcj_fit.specs.Sound.{Sound}
-use Rattle.pcj_client.specs.Job.{GoesOn, HasCome, IsAtWork, IsBusy, IsLoadJob, IsTask, Job, job_of, writing_of}
+use Rattle.pcj_client.specs.Job.{Content, GoesOn, Job, job_of, writing_of}
 use Rattle.pcj_client.specs.Events.{HasMoved, IsDrawing, PrewritesOne, ReadsOne, StepsOn, WriteClockAlone}
-use Rattle.pcj_client.proofs.SoundLemmas.{no_plain, plan_of, steady}
-
--- ---- what the job is
-
-pub load_job_of : (progress : Progress) (triples : List Triple) (writes : List Write) (kept : Option ℕ) → IsAtWork progress triples writes kept → IsLoadJob (job_of progress triples)
-load_job_of progress triples writes kept work = record { load = work.load; reads = work.reads; come = by progress.task refl work.task work.start }
-  where
-    nothing : (task : Task) → progress.task ≡ task → progress.actor.transaction ≡ transaction_of task
-    nothing task is = work.transaction ∙ ap transaction_of is
-
-    read : (triples : List Triple) (at : ℕ) (triple : Triple) → slice_get triples at ≡ Some triple → suc at ≤ length triples
-    read [] zero triple e = absurd cc
-    read [] (suc at) triple e = absurd cc
-    read (first ∷ triples) zero triple e = omega arith
-    read (first ∷ triples) (suc at) triple e = let lt = read triples at triple e in omega arith
-
-    by : (task : Task) → progress.task ≡ task → IsTask task progress.actor triples writes kept → IsOfStart progress.actor.start task → HasCome (writing_of task) (job_of progress triples)
-    by Rest is at start = (nothing Rest is, at.1)
-    by (Get key) is at start = (nothing (Get key) is, let lt = read triples (length progress.actor.answers) at.1 at.2 in omega arith)
-    by (Next range) is at start = absurd at
-    by (Put key plain) is at start = absurd at
-    by (Writes txn) is at start = (nothing (Writes txn) is, start, plan_of progress triples writes kept txn work is)
+use Rattle.pcj_client.proofs.SoundLemmas.{IsQuiet, IsWorking, no_plain, steady}
 
 -- ---- its moves
 
@@ -66,18 +42,18 @@ then_plans (move ∷ moves) writes clock = (clock.0, then_plans moves writes clo
 pub nothing_moved : (job : Job) (oracle oracle' : Option Block) (table table' : Table) → Keeps oracle table oracle' table' → HasMoved job oracle table job oracle' table'
 nothing_moved job oracle oracle' table table' kept = record { moves = []; clock = tt; makes = (kept.next, ap row_at kept.same, refl) }
 
-pub step_moves : (before after done : Progress) (oracle oracle' : Option Block) (table table' : Table) (triples : List Triple) (writes : List Write) (kept : Option ℕ) → IsAtWork before triples writes kept → Carries before oracle table after oracle' table' → GoesOn after done →
-    (others : List Actor) → Sound (state_of oracle table (before.actor ∷ others)) → HasMoved (job_of before triples) oracle table (job_of done triples) oracle' table'
-step_moves before after done oracle oracle' table table' triples writes kept work carries goes others sound = by goes
+pub step_moves : (before after done : Progress) (oracle oracle' : Option Block) (table table' : Table) (content : Content) → IsWorking before → Carries before oracle table after oracle' table' → GoesOn after done →
+    (others : List Actor) → Sound (state_of oracle table (before.actor ∷ others)) → HasMoved (job_of before content) oracle table (job_of done content) oracle' table'
+step_moves before after done oracle oracle' table table' content work carries goes others sound = by goes
   where
     moved : (moves : List Move) × AreStepMoves before.task moves × Makes moves (next_number oracle table) (row_at table) before.actor (next_number oracle' table') (row_at table') after.actor
-    moved = carries others (no_plain before triples writes kept (row_at table) work) sound.consistent
+    moved = carries others (no_plain before (row_at table) work) sound.consistent
 
     clock : (moves : List Move) → AreStepMoves before.task moves → WriteClockAlone moves
     clock moves (inl read) = subst WriteClockAlone (sym read.2) (tt, tt)
-    clock moves (inr all) = clock_alone moves (steady before triples writes kept moves work all)
+    clock moves (inr all) = clock_alone moves (steady before moves work all)
 
-    by : GoesOn after done → HasMoved (job_of before triples) oracle table (job_of done triples) oracle' table'
+    by : GoesOn after done → HasMoved (job_of before content) oracle table (job_of done content) oracle' table'
     by (inl same) = record {
       moves = moved.0;
       clock = clock moved.0 moved.1;
@@ -125,50 +101,51 @@ txn_on old new before oracle table told after oracle' table' does was is start a
     by txn.Done steps = same (ap (λ (p : TxnProgress). p.transaction.prewritten) (steps.1).progress)
 
 -- by the actor's step alone
-actor_on : (before after : Progress) (oracle oracle' : Option Block) (table table' : Table) (told : ActorEvent) (triples : List Triple) (writes : List Write) (kept : Option ℕ) → IsAtWork before triples writes kept → IsBusy before.task →
-    Tells before oracle table told after oracle' table' → StepsOn (job_of before triples) (job_of after triples)
-actor_on before after oracle oracle' table table' event.Rests triples writes kept work busy tells = absurd (subst IsBusy tells.0 busy)
-actor_on before after oracle oracle' table table' event.Answered triples writes kept work busy tells = record {
+actor_on : (before after : Progress) (oracle oracle' : Option Block) (table table' : Table) (told : ActorEvent) (content : Content) → IsWorking before →
+    Tells before oracle table told after oracle' table' → StepsOn (job_of before content) (job_of after content)
+actor_on before after oracle oracle' table table' event.Rests content work tells =
+    stays (job_of before content) (job_of after content) (ap (λ (p : Progress). p.actor.start) tells.1) (ap (λ (p : Progress). p.actor.transaction.prewritten) tells.1) (ap (λ (p : Progress). p.actor.answers) tells.1)
+actor_on before after oracle oracle' table table' event.Answered content work tells = record {
   start = ap (λ (p : Progress). p.actor.start) (tells.0).next;
   one = inl (record {
     prewritten = ap (λ (p : Progress). p.actor.transaction.prewritten) (tells.0).next;
     answers = subst (λ (p : Progress). length p.actor.answers ≤ length before.actor.answers + 1) (sym (tells.0).next) (more_answers before.actor.answers (tells.0).answer);
   });
 }
-actor_on before after oracle oracle' table table' event.Met triples writes kept work busy tells =
-    stays (job_of before triples) (job_of after triples) (ap (λ (p : Progress). p.actor.start) (tells.0).next) (ap (λ (p : Progress). p.actor.transaction.prewritten) (tells.0).next) (ap (λ (p : Progress). p.actor.answers) (tells.0).next)
-actor_on before after oracle oracle' table table' (event.Recovers told) triples writes kept work busy tells =
-    subst (λ (p : Progress). StepsOn (job_of before triples) (job_of p triples)) (sym (tells.0).next) (by told)
+actor_on before after oracle oracle' table table' event.Met content work tells =
+    stays (job_of before content) (job_of after content) (ap (λ (p : Progress). p.actor.start) (tells.0).next) (ap (λ (p : Progress). p.actor.transaction.prewritten) (tells.0).next) (ap (λ (p : Progress). p.actor.answers) (tells.0).next)
+actor_on before after oracle oracle' table table' (event.Recovers told) content work tells =
+    subst (λ (p : Progress). StepsOn (job_of before content) (job_of p content)) (sym (tells.0).next) (by told)
   where
-    by : (e : RecoveryEvent) → StepsOn (job_of before triples) (job_of (with_recovered before e (tells.0).after) triples)
-    by recovery.Working = stays (job_of before triples) (job_of (with_recovered before recovery.Working (tells.0).after) triples) refl refl refl
-    by recovery.RolledForward = stays (job_of before triples) (job_of (with_recovered before recovery.RolledForward (tells.0).after) triples) refl refl refl
-    by recovery.RolledBack = stays (job_of before triples) (job_of (with_recovered before recovery.RolledBack (tells.0).after) triples) refl refl refl
-actor_on before after oracle oracle' table table' (event.Put applied) triples writes kept work busy tells = absurd (subst (λ t. IsTask t before.actor triples writes kept) (tells.0).is work.task)
-actor_on before after oracle oracle' table table' (event.Writes told) triples writes kept work busy tells =
-    txn_on (job_of before triples) (job_of after triples) tells.before oracle table told tells.after oracle' table' tells.steps (work.transaction ∙ ap transaction_of tells.is) (ap (λ (p : Progress). p.actor.transaction) tells.next)
+    by : (e : RecoveryEvent) → StepsOn (job_of before content) (job_of (with_recovered before e (tells.0).after) content)
+    by recovery.Working = stays (job_of before content) (job_of (with_recovered before recovery.Working (tells.0).after) content) refl refl refl
+    by recovery.RolledForward = stays (job_of before content) (job_of (with_recovered before recovery.RolledForward (tells.0).after) content) refl refl refl
+    by recovery.RolledBack = stays (job_of before content) (job_of (with_recovered before recovery.RolledBack (tells.0).after) content) refl refl refl
+actor_on before after oracle oracle' table table' (event.Put applied) content work tells = absurd (subst IsQuiet (tells.0).is work.quiet)
+actor_on before after oracle oracle' table table' (event.Writes told) content work tells =
+    txn_on (job_of before content) (job_of after content) tells.before oracle table told tells.after oracle' table' tells.steps (work.transaction ∙ ap transaction_of tells.is) (ap (λ (p : Progress). p.actor.transaction) tells.next)
     (ap (λ (p : Progress). p.actor.start) tells.next) (ap (λ (p : Progress). p.actor.answers) tells.next)
 
 -- the beginning of the writes reads and prewrites nothing
-pub step_on : (before after done : Progress) (oracle oracle' : Option Block) (table table' : Table) (told : ActorEvent) (triples : List Triple) (writes : List Write) (kept : Option ℕ) → IsAtWork before triples writes kept → IsBusy before.task →
-    Tells before oracle table told after oracle' table' → GoesOn after done → StepsOn (job_of before triples) (job_of done triples)
-step_on before after done oracle oracle' table table' told triples writes kept work busy tells goes = by goes
+pub step_on : (before after done : Progress) (oracle oracle' : Option Block) (table table' : Table) (told : ActorEvent) (content : Content) → IsWorking before →
+    Tells before oracle table told after oracle' table' → GoesOn after done → StepsOn (job_of before content) (job_of done content)
+step_on before after done oracle oracle' table table' told content work tells goes = by goes
   where
-    first : StepsOn (job_of before triples) (job_of after triples)
-    first = actor_on before after oracle oracle' table table' told triples writes kept work busy tells
+    first : StepsOn (job_of before content) (job_of after content)
+    first = actor_on before after oracle oracle' table table' told content work tells
 
-    by : GoesOn after done → StepsOn (job_of before triples) (job_of done triples)
-    by (inl same) = subst (λ (p : Progress). StepsOn (job_of before triples) (job_of p triples)) (sym same) first
-    by (inr begins) = subst (λ (p : Progress). StepsOn (job_of before triples) (job_of p triples)) (sym begins.3) (begun first.one)
+    by : GoesOn after done → StepsOn (job_of before content) (job_of done content)
+    by (inl same) = subst (λ (p : Progress). StepsOn (job_of before content) (job_of p content)) (sym same) first
+    by (inr begins) = subst (λ (p : Progress). StepsOn (job_of before content) (job_of p content)) (sym begins.3) (begun first.one)
       where
         none : after.actor.transaction.prewritten ≡ 0
         none = ap (λ (t : Transaction). t.prewritten) begins.1
 
-        begun : ReadsOne (job_of before triples) (job_of after triples) ⊎ PrewritesOne (job_of before triples) (job_of after triples) → StepsOn (job_of before triples) (job_of (with_task after (Writes (new_txn after.actor.start begins.0))) triples)
+        begun : ReadsOne (job_of before content) (job_of after content) ⊎ PrewritesOne (job_of before content) (job_of after content) → StepsOn (job_of before content) (job_of (with_task after (Writes (new_txn after.actor.start begins.0))) content)
         begun (inl reads) = record { start = first.start; one = inl (record { prewritten = sym none ∙ reads.prewritten; answers = reads.answers }) }
         begun (inr prewrites) = absurd (let one = prewrites.prewritten in let e = none in omega arith)
 
 -- ---- a draw
 
-pub draws : (before asked : Progress) (triples : List Triple) (old : Job) → writing_of asked.task ≡ writing_of before.task → job_of before triples ≡ old → ActorDraws asked.task → IsDrawing old
-draws before asked triples old writing view drawing = (drawing.0, sym (ap (λ (j : Job). j.writing) view) ∙ sym writing ∙ ap writing_of drawing.1, drawing.2)
+pub draws : (before asked : Progress) (content : Content) (old : Job) → writing_of asked.task ≡ writing_of before.task → job_of before content ≡ old → ActorDraws asked.task → IsDrawing old
+draws before asked content old writing view drawing = (drawing.0, sym (ap (λ (j : Job). j.writing) view) ∙ sym writing ∙ ap writing_of drawing.1, drawing.2)

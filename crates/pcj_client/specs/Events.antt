@@ -1,5 +1,5 @@
--- What a step of a load tells.
-use Rattle.std.specs.Prelude.{◌≡◌, ◌⊎◌, ◌≤◌, ◌+◌, ℕ, false, true, is_some, if◌then◌else◌, List, [], ◌∷◌, ◌++◌, length, Option, Some, None}
+-- What a step of a job tells.
+use Rattle.std.specs.Prelude.{◌≡◌, ◌≢◌, ◌⊎◌, ◌≤◌, ◌+◌, ℕ, Bool, false, true, is_some, if◌then◌else◌, List, [], ◌∷◌, ◌++◌, length, Option, Some, None}
 use Rattle.pcj_term.specs.declared.triple.Triple.{Triple}
 use Rattle.pcj_table.specs.Table.{Table, row_at}
 use Rattle.pcj_oracle.specs.Clock.{next_number}
@@ -19,9 +19,12 @@ use Rattle.pcj_moves.specs.Recoveries.{new_recovery}
 use Rattle.pcj_actor.specs.declared.event.ActorEvent.{ActorEvent}
 use Rattle.pcj_actor.specs.declared.event.ActorEvent.TheVariants as actor
 use Rattle.pcj_fit.specs.Laws.{WritesClock}
+use Rattle.pcj_fit.specs.Queries.{HasQueries, Registration, added}
+use Rattle.pcj_fit.specs.QueryLaws.{registration_of}
 use Rattle.pcj_fit.specs.Sound.{Sound}
 use Rattle.pcj_fit.specs.Triples.{HasTriples}
-use Rattle.pcj_client.specs.Job.{Job}
+use Rattle.std.specs.List.{All, Contains}
+use Rattle.pcj_client.specs.Job.{Content, Job, Loads, Registers, finds_name}
 use Rattle.pcj_client.specs.declared.event.JobEvent.{JobEvent}
 use Rattle.pcj_client.specs.declared.event.JobEvent.TheVariants.{Worked, Committed, Done, Aborted, Taken}
 
@@ -45,16 +48,26 @@ event_of (actor.Recovers told) = Worked
 event_of (actor.Put applied) = Worked
 event_of (actor.Writes told) = job_event told
 
+-- of a step of a registration's actor, where its name has been found or not
+abbrev pub register_event : ActorEvent → Bool → JobEvent
+register_event actor.Rests found = if found then Taken else Worked
+register_event actor.Answered found = if found then Taken else Worked
+register_event actor.Met found = Worked
+register_event (actor.Recovers told) found = Worked
+register_event (actor.Put applied) found = Worked
+register_event (actor.Writes told) found = job_event told
+
 -- the transaction's next row has a lock, which is to be taken away
 abbrev pub HasMet : Table → Job → Type 0
 HasMet table new = (key : Key) × (lock : Lock) × ((row_at table key).lock ≡ Some lock) × (new.actor.recovery ≡ Some (new_recovery key lock))
 
--- While it reads or takes a lock away, and where its transaction meets one, the job goes on; else it tells what its
--- transaction's step does.
+-- While it reads or takes a lock away, and where its transaction meets one, the job goes on; then it tells what its
+-- transaction's step does. Where a registration has found its name it is taken, and doesn't go on.
 abbrev pub IsTold : Job → Option Block → Table → JobEvent → Job → Option Block → Table → Type 0
 IsTold old oracle table told new oracle' table' =
-    ((told ≡ Worked) × ((is_some old.actor.recovery ≡ true) ⊎ (old.writing ≡ None) ⊎ (TimesInOrder (row_at table) → HasMet table new))) ⊎
-    ((old.actor.recovery ≡ None) × (before : TxnProgress) × (old.writing ≡ Some before) × (done : TxnEvent) × (after : TxnProgress) × TxnSteps before oracle table done after oracle' table' × (told ≡ job_event done))
+    ((told ≡ Worked) × ((is_some old.actor.recovery ≡ true) ⊎ ((old.writing ≡ None) × (finds_name new ≡ false)) ⊎ (TimesInOrder (row_at table) → HasMet table new))) ⊎
+    ((old.actor.recovery ≡ None) × (before : TxnProgress) × (old.writing ≡ Some before) × (done : TxnEvent) × (after : TxnProgress) × TxnSteps before oracle table done after oracle' table' × (told ≡ job_event done)) ⊎
+    ((told ≡ Taken) × (old.actor.recovery ≡ None) × (old.writing ≡ None) × (finds_name new ≡ true))
 
 -- its own commit is the one that was drawn, and is made once
 abbrev pub CommitsOnce : Job → JobEvent → Job → Type 0
@@ -69,12 +82,45 @@ triples_after Done known triples = known
 triples_after Aborted known triples = known
 triples_after Taken known triples = known
 
+-- the queries after a step: that of a registration has joined with its commit
+abbrev pub joined : Content → Actor → List Registration → List Registration
+joined (Loads triples) actor known = known
+joined (Registers name tree) actor known = added (registration_of actor name tree) known
+
+abbrev pub queries_after : JobEvent → Job → List Registration → List Registration
+queries_after Worked job known = known
+queries_after (Committed commit) job known = joined job.content job.actor known
+queries_after Done job known = known
+queries_after Aborted job known = known
+queries_after Taken job known = known
+
+-- no query has the name of a registration, or one has
+abbrev pub IsNew : Content → List Registration → Type 0
+IsNew (Loads triples) known = Unit {0}
+IsNew (Registers name tree) known = All (λ (other : Registration). other.name ≢ name) known
+
+abbrev pub IsKnown : Content → List Registration → Type 0
+IsKnown (Loads triples) known = ⊥
+IsKnown (Registers name tree) known = (registration : Registration) × Contains known registration × (registration.name ≡ name)
+
+-- with its commit no other query has its name, and where it is taken one has
+abbrev pub IsNamed : JobEvent → Content → List Registration → Type 0
+IsNamed Worked content known = Unit {0}
+IsNamed (Committed commit) content known = IsNew content known
+IsNamed Done content known = Unit {0}
+IsNamed Aborted content known = Unit {0}
+IsNamed Taken content known = IsKnown content known
+
 -- Whoever else is at work: all stays sound.
 abbrev pub KeepsAllSound : Job → Option Block → Table → Job → Option Block → Table → Type 0
 KeepsAllSound old oracle table new oracle' table' = (others : List Actor) → Sound (state_of oracle table (old.actor ∷ others)) → Sound (state_of oracle' table' (new.actor ∷ others))
 
 abbrev pub LeavesTriples : Job → Option Block → Table → Table → List Triple → List Triple → Type 0
 LeavesTriples old oracle table table' known after = (others : List Actor) → Sound (state_of oracle table (old.actor ∷ others)) → HasTriples (row_at table) known → HasTriples (row_at table') after
+
+abbrev pub LeavesQueries : Job → Option Block → Table → Table → List Registration → JobEvent → Type 0
+LeavesQueries old oracle table table' known event = (others : List Actor) → Sound (state_of oracle table (old.actor ∷ others)) → HasQueries (row_at table) known →
+    IsNamed event old.content known × HasQueries (row_at table') (queries_after event old known)
 
 -- ---- the moves of a step
 
@@ -93,7 +139,7 @@ pub record HasMoved (old : Job) (oracle : Option Block) (table : Table) (new : J
 abbrev pub IsMoved : Job → Option Block → Table → Job → Option Block → Table → Type 0
 IsMoved old oracle table new oracle' table' = (others : List Actor) → Sound (state_of oracle table (old.actor ∷ others)) → HasMoved old oracle table new oracle' table'
 
--- one triple is read at most, and nothing is prewritten
+-- one row is read at most, and nothing is prewritten
 pub record ReadsOne (old new : Job) : Type 0 where
   pub prewritten : new.actor.transaction.prewritten ≡ old.actor.transaction.prewritten
   pub answers : length new.actor.answers ≤ length old.actor.answers + 1

@@ -10,8 +10,9 @@ ghost use Rattle.std.specs.Option.{option_copied};
 ghost use Rattle.pcj_actor.specs.declared.event.ActorEvent.TheVariants.{Answered};
 ghost use Rattle.pcj_actor.specs.Progress.{MakesUpTo, Progress};
 ghost use Rattle.pcj_fit.specs.Plans.{IsLoad};
-ghost use Rattle.pcj_client.specs.Job.{IsAtWork, IsBusy, IsLoadJob, HasStepped, GoesOn, is_found, kept_writes, writing_of};
-ghost use Rattle.pcj_client.specs.Events.{IsDrawing, IsMoved, IsTold, CommitsOnce, KeepsAllSound, LeavesTriples, StepsOn, job_calls, triples_after, event_of, job_event};
+ghost use Rattle.pcj_fit.specs.Queries.{Registration};
+ghost use Rattle.pcj_client.specs.Job.{IsAtWork, IsBusy, IsJob, IsLoadJob, Loads, HasStepped, GoesOn, is_found, kept_writes, loaded, writing_of};
+ghost use Rattle.pcj_client.specs.Events.{IsDrawing, IsMoved, IsTold, CommitsOnce, KeepsAllSound, LeavesQueries, LeavesTriples, StepsOn, job_calls, triples_after, event_of, job_event};
 
 use crate::event::JobEvent;
 use crate::writes::add_writes;
@@ -37,11 +38,15 @@ pub struct LoadJob {
 }
 
 impl Model for LoadJob {
-    ghost use Rattle.pcj_client.specs.Job.{Job, job_of, IsAtWork};
+    ghost use Rattle.std.specs.Coded.{codes};
+    ghost use Rattle.pcj_expr.specs.contracts.expr.Expr as expr;
+    ghost use Rattle.pcj_client.specs.Job.{Job, Loads, job_of, IsAtWork};
 
     ghost Value = { Job };
 
-    ghost view = { λ j. job_of j.actor j.triples };
+    ghost coded = { Prim.hlevel (codes, expr.the_row.coded) };
+
+    ghost view = { λ j. job_of j.actor (Loads j.triples) };
 
     ghost invariant = { λ j. IsAtWork j.actor j.triples j.writes.items j.kept };
 }
@@ -52,8 +57,7 @@ impl LoadJob {
     pub fn new(alloc: Global, load: u64, triples: Items<Triple>) -> LoadJob
         requires { IsLoad load triples }
         ensures actor { result.actor ≡ new_actor load }
-        ensures triples { result.triples ≡ triples }
-        ensures job { IsLoadJob result }
+        ensures job { IsLoadJob result triples }
     {
         let mut actor = Actor::new(alloc, load);
         if triples.is_empty() {
@@ -76,17 +80,19 @@ impl LoadJob {
     ) -> Result<JobEvent, TxnError>
         requires { IsClock oracle.old (T.rows table.old) }
 
-        // What is told, and whoever else is at work: all stays sound, and the load's triples join with its commit.
+        // What is told, and whoever else is at work: all stays sound, and the load's triples join with its commit and
+        // leave the queries.
         ensures told { IfOk result (λ event. IsTold self.old oracle.old (T.rows table.old) event self.new oracle.new (T.rows table.new)) }
         ensures commit { IfOk result (λ event. CommitsOnce self.old event self.new) }
         ensures sound { KeepsAllSound self.old oracle.old (T.rows table.old) self.new oracle.new (T.rows table.new) }
-        ensures triples { (known : List Triple) → IfOk result (λ event. LeavesTriples self.old oracle.old (T.rows table.old) (T.rows table.new) known (triples_after event known self.old.triples)) }
-        ensures content { self.new.triples ≡ self.old.triples }
+        ensures triples { (known : List Triple) → IfOk result (λ event. LeavesTriples self.old oracle.old (T.rows table.old) (T.rows table.new) known (triples_after event known (loaded self.old.content))) }
+        ensures queries { (known : List Registration) → IfOk result (λ event. LeavesQueries self.old oracle.old (T.rows table.old) (T.rows table.new) known event) }
+        ensures content { self.new.content ≡ self.old.content }
 
         // What the step is to others, and how far it goes, whatever it answers.
         ensures moves { IsMoved self.old oracle.old (T.rows table.old) self.new oracle.new (T.rows table.new) }
         ensures on { StepsOn self.old self.new }
-        ensures job { IsLoadJob self.new }
+        ensures job { IsJob self.new }
 
         // What an error leaves.
         ensures same { OnErr result (self.new ≡ self.old) }
@@ -175,7 +181,7 @@ fn take_in(
 }
 
 /// What a transaction's step is to its job.
-fn job_event(event: &TxnEvent) -> JobEvent
+pub(crate) fn job_event(event: &TxnEvent) -> JobEvent
     ensures { result ≡ job_event event.now }
 {
     match event {
@@ -219,7 +225,7 @@ fn keep(writes: &mut Vec<Write>, len: Option<usize>, found: bool)
 }
 
 /// Whether the row that was read has a value.
-fn is_found(answer: Option<&Answer>) -> bool
+pub(crate) fn is_found(answer: Option<&Answer>) -> bool
     ensures { result ≡ is_found (option_copied answer.entry) }
 {
     matches!(answer, Some(Answer::OfRow { found: Some(_), .. }))

@@ -40,7 +40,7 @@ fn writes_of(alloc: Global, parts: &TripleParts, triple: &Triple) -> Result<Vec<
 }
 
 /// A write of the empty value.
-fn put_mark(alloc: Global, key: Bytes) -> Write
+pub(crate) fn put_mark(alloc: Global, key: Bytes) -> Write
     ensures { result ≡ put_mark key }
 {
     Write {

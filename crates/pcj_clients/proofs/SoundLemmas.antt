@@ -1,4 +1,4 @@
--- What a client's step leaves of all who are at work, and of the triples.
+-- What a client's step leaves of all who are at work, of the triples and of the queries.
 use Rattle.std.proofs.Common.{◌≡◌, ℕ, suc, Bool, true, false, List, [], ◌∷◌, ◌++◌, Option, Some, None, refl, ap, sym, subst, ◌∙◌}
 use Rattle.std.proofs.lemmas.List.{append_assoc}
 use Rattle.pcj_term.specs.declared.triple.Triple.{Triple}
@@ -8,13 +8,14 @@ use Rattle.pcj_oracle.specs.declared.block.Block.{Block}
 use Rattle.pcj_moves.specs.Actors.{Actor}
 use Rattle.pcj_actor.specs.StepLaws.{state_of}
 use Rattle.pcj_fit.specs.Laws as fit
+use Rattle.pcj_fit.specs.Queries.{Registration}
 use Rattle.pcj_fit.specs.Sound.{Sound}
 use Rattle.pcj_fit.proofs.SoundLemmas.{back_is_sound, begin_is_sound, end_is_sound, first_is_sound}
 use Rattle.pcj_client.specs.Job.{Job}
-use Rattle.pcj_client.specs.Events.{KeepsAllSound as JobKeepsSound, LeavesTriples}
+use Rattle.pcj_client.specs.Events.{KeepsAllSound as JobKeepsSound, LeavesQueries, LeavesTriples, queries_after}
 use Rattle.pcj_client.specs.declared.event.JobEvent.{JobEvent}
 use Rattle.pcj_clients.specs.Clients.{actors_of, after_step, is_end, job_of, with_job, without_job}
-use Rattle.pcj_clients.specs.Laws.{BeginsSound, ChangesTriples, EndsSound, KeepsAllSound}
+use Rattle.pcj_clients.specs.Laws.{BeginsSound, ChangesQueries, ChangesTriples, EndsSound, KeepsAllSound}
 use Rattle.pcj_clients.specs.declared.busy.Busy.{Busy}
 use Rattle.pcj_clients.proofs.JobLemmas.{AreAround, around, without_none}
 
@@ -54,6 +55,12 @@ pub changes_triples : (clients : List Busy) (client : ℕ) (job : Job) (oracle :
 changes_triples clients client job oracle table table' before after some leaves others sound has =
     let (front, back, are) = around clients client job some in
     leaves (front ++ (back ++ others)) (comes_first clients job front back client oracle table others are sound) has
+
+pub changes_queries : (clients : List Busy) (client : ℕ) (job : Job) (oracle : Option Block) (table table' : Table) (known : List Registration) (told : JobEvent) → job_of clients client ≡ Some job → LeavesQueries job oracle table table' known told →
+    ChangesQueries clients oracle table table' known (queries_after told job known)
+changes_queries clients client job oracle table table' known told some leaves others sound has =
+    let (front, back, are) = around clients client job some in
+    (leaves (front ++ (back ++ others)) (comes_first clients job front back client oracle table others are sound) has).1
 
 -- ---- jobs that begin and end
 

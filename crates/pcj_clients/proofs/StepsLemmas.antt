@@ -11,13 +11,16 @@ use Rattle.pcj_oracle.specs.declared.block.Block.{Block}
 use Rattle.pcj_txn.specs.declared.error.TxnError.TheVariants as txn_error
 use Rattle.pcj_txn.specs.Errors.{MakesOneCall}
 use Rattle.pcj_actor.specs.Progress.{MakesUpTo}
+use Rattle.pcj_fit.specs.Queries.{HasQueries, Registration, added}
 use Rattle.pcj_fit.specs.Triples.{HasTriples}
-use Rattle.pcj_client.specs.Job.{Job}
+use Rattle.pcj_moves.specs.Actors.{Actor}
+use Rattle.pcj_client.specs.Job.{Content, Job, Loads, Registers, loaded}
+use Rattle.pcj_client.specs.Events.{joined, queries_after, triples_after}
 use Rattle.pcj_client.specs.declared.event.JobEvent.{JobEvent}
 use Rattle.pcj_client.specs.declared.event.JobEvent.TheVariants as event
 use Rattle.pcj_clients.specs.Clients.{is_end, job_of, with_job, without_job}
-use Rattle.pcj_clients.specs.Laws.{ChangesTriples, DrawsNext, IsClientStep, KeepsAllSound, calls_of, triples_then}
-use Rattle.pcj_clients.specs.Steps.{AreSteps, AreStepsOf, GoOnUpTo, IsStepOf, MakesCallsOf, Told, WantsMemory, all_go_on, all_had_memory, goes_on, had_memory, known_after, no_steps, stepped_from, with_told}
+use Rattle.pcj_clients.specs.Laws.{ChangesQueries, ChangesTriples, DrawsNext, IsClientStep, KeepsAllSound, calls_of, queries_then, triples_then}
+use Rattle.pcj_clients.specs.Steps.{AreSteps, AreStepsOf, GoOnUpTo, IsStepOf, MakesCallsOf, Told, WantsMemory, all_go_on, all_had_memory, goes_on, had_memory, known_after, no_steps, queries_known_after, stepped_from, with_told}
 use Rattle.pcj_clients.specs.declared.busy.Busy.{Busy}
 use Rattle.pcj_clients.specs.declared.stepped.Stepped.{Stepped}
 use Rattle.pcj_clients.specs.declared.stepped.StepsEnd.TheVariants as end
@@ -32,18 +35,44 @@ pub is_step_of : (told : Told) (client : ℕ) (old new : List Busy) (oracle orac
 is_step_of (Ok event) client old new oracle oracle' table table' tells same keeps spent draws = tells
 is_step_of (Err error) client old new oracle oracle' table table' tells same keeps spent draws = (same, keeps, λ is. (spent (ap (λ e. Err e) is), draws (ap (λ e. Err e) is)))
 
--- ---- the job's triples
+-- ---- what a job is for
 
-abbrev pub triples_of : Option Job → Option (List Triple)
-triples_of None = None
-triples_of (Some job) = Some job.triples
+-- and its number, which its query has
+pub record Aim : Type 0 where
+  pub content : Content
+  pub start : ℕ
 
-same_then : (a b : Option Job) (event : Option JobEvent) (known : List Triple) → triples_of a ≡ triples_of b → triples_then a event known ≡ triples_then b event known
-same_then None None event known same = refl
-same_then None (Some b) event known same = absurd cc
-same_then (Some a) None event known same = absurd cc
-same_then (Some a) (Some b) None known same = refl
-same_then (Some a) (Some b) (Some event) known same = let is : a.triples ≡ b.triples = cc in ap (λ triples. Rattle.pcj_client.specs.Events.triples_after event known triples) is
+abbrev aim : Job → Aim
+aim job = record { content = job.content; start = job.actor.start }
+
+abbrev pub aim_of : Option Job → Option Aim
+aim_of None = None
+aim_of (Some job) = Some (aim job)
+
+same_triples : (a b : Option Job) (event : Option JobEvent) (known : List Triple) → aim_of a ≡ aim_of b → triples_then a event known ≡ triples_then b event known
+same_triples None None event known same = refl
+same_triples None (Some b) event known same = absurd cc
+same_triples (Some a) None event known same = absurd cc
+same_triples (Some a) (Some b) None known same = refl
+same_triples (Some a) (Some b) (Some event) known same = let is : aim a ≡ aim b = cc in ap (λ (x : Aim). triples_after event known (loaded x.content)) is
+
+same_joined : (content : Content) (a b : Actor) (known : List Registration) → a.start ≡ b.start → joined content a known ≡ joined content b known
+same_joined (Loads triples) a b known same = refl
+same_joined (Registers name tree) a b known same = ap (λ number. added (record { name = name; number = number; tree = tree }) known) same
+
+same_queries : (a b : Option Job) (event : Option JobEvent) (known : List Registration) → aim_of a ≡ aim_of b → queries_then a event known ≡ queries_then b event known
+same_queries None None event known same = refl
+same_queries None (Some b) event known same = absurd cc
+same_queries (Some a) None event known same = absurd cc
+same_queries (Some a) (Some b) None known same = refl
+same_queries (Some a) (Some b) (Some told) known same = let is : aim a ≡ aim b = cc in by is told
+  where
+    by : aim a ≡ aim b → (e : JobEvent) → queries_after e a known ≡ queries_after e b known
+    by is event.Worked = refl
+    by is (event.Committed commit) = same_joined a.content a.actor b.actor known (ap (λ (x : Aim). x.start) is) ∙ ap (λ (x : Aim). joined x.content b.actor known) is
+    by is event.Done = refl
+    by is event.Aborted = refl
+    by is event.Taken = refl
 
 job_with : (clients : List Busy) (client : ℕ) (job job' : Job) → job_of clients client ≡ Some job → job_of (with_job clients client job') client ≡ Some job'
 job_with [] client job job' some = absurd cc
@@ -54,23 +83,24 @@ job_with (busy ∷ clients) client job job' some = by (busy.client == client) re
     by false e rest = ap (λ x. job_of (if x then (record { client = busy.client; job = job' }) ∷ clients else busy ∷ with_job clients client job') client) e
         ∙ ap (choice busy (with_job clients client job') client) e ∙ rest (ap (choice busy clients client) (sym e) ∙ some)
 
--- a job that goes on has its triples still
-keeps_triples : (told : Told) (client : ℕ) (old new : List Busy) (oracle oracle' : Option Block) (table table' : Table) → IsStepOf told client old oracle table new oracle' table' → goes_on told ≡ true → triples_of (job_of new client) ≡ triples_of (job_of old client)
-keeps_triples (Err error) client old new oracle oracle' table table' step goes = absurd cc
-keeps_triples (Ok None) client old new oracle oracle' table table' step goes = absurd cc
-keeps_triples (Ok (Some event)) client old new oracle oracle' table table' step goes = by (job_of old client) refl step
+-- a job that goes on is for the same still
+keeps_aim : (told : Told) (client : ℕ) (old new : List Busy) (oracle oracle' : Option Block) (table table' : Table) → IsStepOf told client old oracle table new oracle' table' → goes_on told ≡ true → aim_of (job_of new client) ≡ aim_of (job_of old client)
+keeps_aim (Err error) client old new oracle oracle' table table' step goes = absurd cc
+keeps_aim (Ok None) client old new oracle oracle' table table' step goes = absurd cc
+keeps_aim (Ok (Some event)) client old new oracle oracle' table table' step goes = by (job_of old client) refl step
   where
     not_true : (b : Bool) → not b ≡ true → b ≡ false
     not_true true e = absurd cc
     not_true false e = refl
 
-    by : (found : Option Job) → job_of old client ≡ found → IsClientStep found client old oracle table (Some event) new oracle' table' → triples_of (job_of new client) ≡ triples_of (job_of old client)
+    by : (found : Option Job) → job_of old client ≡ found → IsClientStep found client old oracle table (Some event) new oracle' table' → aim_of (job_of new client) ≡ aim_of (job_of old client)
     by None e step = absurd (let clash = step.0 in cc)
     by (Some job) e step = let (told, is, made) = step in
         let same : Some event ≡ Some told = is in
         let going : is_end told ≡ false = subst (λ x. is_end x ≡ false) (let s : event ≡ told = cc in s) (not_true (is_end event) goes) in
         let now : new ≡ with_job old client made.after = made.left ∙ ap (λ b. if b then without_job old client else with_job old client made.after) going in
-        ap (λ cs. triples_of (job_of cs client)) now ∙ ap triples_of (job_with old client job made.after e) ∙ ap Some made.content ∙ sym (ap triples_of e)
+        ap (λ cs. aim_of (job_of cs client)) now ∙ ap aim_of (job_with old client job made.after e) ∙ ap (λ content. Some (record { content = content; start = made.after.actor.start })) made.content
+        ∙ ap (λ start. Some (record { content = job.content; start = start })) made.on.start ∙ sym (ap aim_of e)
 
 -- ---- one more at the end
 
@@ -94,6 +124,16 @@ after_then job [] (Ok event) known = refl
 after_then job [] (Err error) known = refl
 after_then job (Ok event ∷ told) more known = after_then job told more (triples_then job event known)
 after_then job (Err error ∷ told) more known = after_then job told more known
+
+abbrev pub queries_known_then : Option Job → Told → List Registration → List Registration
+queries_known_then job (Ok event) known = queries_then job event known
+queries_known_then job (Err error) known = known
+
+queries_after_then : (job : Option Job) (told : List Told) (more : Told) (known : List Registration) → queries_known_after job (told ++ more ∷ []) known ≡ queries_known_then job more (queries_known_after job told known)
+queries_after_then job [] (Ok event) known = refl
+queries_after_then job [] (Err error) known = refl
+queries_after_then job (Ok event ∷ told) more known = queries_after_then job told more (queries_then job event known)
+queries_after_then job (Err error ∷ told) more known = queries_after_then job told more known
 
 all_then : (told : List Told) (more : Told) → all_go_on told ≡ true → goes_on more ≡ true → all_go_on (told ++ more ∷ []) ≡ true
 all_then [] more all goes = ap (λ b. b && true) goes
@@ -194,9 +234,10 @@ pub record SoFar (client most : ℕ) (old : List Busy) (oracle : Option Block) (
   pub within : length told ≤ most
   pub counted : going ≡ true → stepped.count ≡ length told
   pub end : going ≡ true → stepped.end ≡ end.AllMade
-  pub same : going ≡ true → triples_of (job_of new client) ≡ triples_of (job_of old client)
+  pub same : going ≡ true → aim_of (job_of new client) ≡ aim_of (job_of old client)
   pub sound : KeepsAllSound old oracle table new oracle' table'
   pub triples : (known : List Triple) → ChangesTriples old oracle table table' known (known_after (job_of old client) told known)
+  pub queries : (known : List Registration) → ChangesQueries old oracle table table' known (queries_known_after (job_of old client) told known)
   pub memory : all_had_memory told ≡ had
   pub calls : MakesCallsOf (length told) oracle oracle' made made'
   pub count_calls : had ≡ true → MakesCallsOf stepped.count oracle oracle' made made'
@@ -213,6 +254,7 @@ so_far_none client most old oracle table made = record {
   same = λ t. refl;
   sound = λ others sound. sound;
   triples = λ known others sound has. has;
+  queries = λ known others sound has. has;
   memory = refl;
   calls = record { calls = 0; made = refl; within = omega arith };
   count_calls = λ t. record { calls = 0; made = refl; within = omega arith };
@@ -223,9 +265,9 @@ abbrev pub LeavesOf : Told → ℕ → List Busy → Option Block → Table → 
 LeavesOf told client old oracle table table' = (known : List Triple) → IfOk told (λ event. ChangesTriples old oracle table table' known (triples_then (job_of old client) event known))
 
 leaves : (told : Told) (client : ℕ) (old mid new : List Busy) (between oracle' : Option Block) (rows table' : Table) (known : List Triple) → IsStepOf told client mid between rows new oracle' table' → LeavesOf told client mid between rows table' →
-    triples_of (job_of mid client) ≡ triples_of (job_of old client) → ChangesTriples mid between rows table' known (known_then (job_of old client) told known)
+    aim_of (job_of mid client) ≡ aim_of (job_of old client) → ChangesTriples mid between rows table' known (known_then (job_of old client) told known)
 leaves (Ok event) client old mid new between oracle' rows table' known step left same others sound has =
-    subst (λ triples. HasTriples (row_at table') triples) (same_then (job_of mid client) (job_of old client) event known same) (left known others sound has)
+    subst (λ triples. HasTriples (row_at table') triples) (same_triples (job_of mid client) (job_of old client) event known same) (left known others sound has)
 leaves (Err error) client old mid new between oracle' rows table' known step left same others sound has =
     subst (λ t. HasTriples (row_at t) known) (sym ((step.1).same)) has
 
@@ -235,10 +277,27 @@ more_triples told client most old mid new oracle between oracle' table rows tabl
     subst (λ triples. HasTriples (row_at table') triples) (sym (after_then (job_of old client) far.told told known))
     (leaves told client old mid new between oracle' rows table' (known_after (job_of old client) far.told known) step left (far.same refl) others (far.sound others sound) (far.triples known others sound has))
 
+-- and of the queries
+abbrev pub LeavesQueriesOf : Told → ℕ → List Busy → Option Block → Table → Table → Type 0
+LeavesQueriesOf told client old oracle table table' = (known : List Registration) → IfOk told (λ event. ChangesQueries old oracle table table' known (queries_then (job_of old client) event known))
+
+leaves_queries : (told : Told) (client : ℕ) (old mid new : List Busy) (between oracle' : Option Block) (rows table' : Table) (known : List Registration) → IsStepOf told client mid between rows new oracle' table' → LeavesQueriesOf told client mid between rows table' →
+    aim_of (job_of mid client) ≡ aim_of (job_of old client) → ChangesQueries mid between rows table' known (queries_known_then (job_of old client) told known)
+leaves_queries (Ok event) client old mid new between oracle' rows table' known step left same others sound has =
+    subst (λ queries. HasQueries (row_at table') queries) (same_queries (job_of mid client) (job_of old client) event known same) (left known others sound has)
+leaves_queries (Err error) client old mid new between oracle' rows table' known step left same others sound has =
+    subst (λ t. HasQueries (row_at t) known) (sym ((step.1).same)) has
+
+more_queries : (told : Told) (client most : ℕ) (old mid new : List Busy) (oracle between oracle' : Option Block) (table rows table' : Table) (made middle : ℕ) (stepped : Stepped) (far : SoFar client most old oracle table made true true stepped mid between rows middle) →
+    IsStepOf told client mid between rows new oracle' table' → LeavesQueriesOf told client mid between rows table' → (known : List Registration) → ChangesQueries old oracle table table' known (queries_known_after (job_of old client) (far.told ++ told ∷ []) known)
+more_queries told client most old mid new oracle between oracle' table rows table' made middle stepped far step left known others sound has =
+    subst (λ queries. HasQueries (row_at table') queries) (sym (queries_after_then (job_of old client) far.told told known))
+    (leaves_queries told client old mid new between oracle' rows table' (queries_known_after (job_of old client) far.told known) step left (far.same refl) others (far.sound others sound) (far.queries known others sound has))
+
 pub one_more : (told : Told) (client most : ℕ) (old mid new : List Busy) (oracle between oracle' : Option Block) (table rows table' : Table) (made middle made' : ℕ) (stepped stepped' : Stepped) → SoFar client most old oracle table made true true stepped mid between rows middle → stepped.count < most →
-    IsStepOf told client mid between rows new oracle' table' → KeepsAllSound mid between rows new oracle' table' → LeavesOf told client mid between rows table' → stepped' ≡ with_told stepped told →
+    IsStepOf told client mid between rows new oracle' table' → KeepsAllSound mid between rows new oracle' table' → LeavesOf told client mid between rows table' → LeavesQueriesOf told client mid between rows table' → stepped' ≡ with_told stepped told →
     MakesUpTo (calls_of (job_of mid client) between rows) middle made' → MakesOneCall between oracle' middle made' → SoFar client most old oracle table made (goes_on told) (had_memory told) stepped' new oracle' table' made'
-one_more told client most old mid new oracle between oracle' table rows table' made middle made' stepped stepped' far less step keeps left is calls one = record {
+one_more told client most old mid new oracle between oracle' table rows table' made middle made' stepped stepped' far less step keeps left queries is calls one = record {
   told = far.told ++ told ∷ [];
   steps = steps_then far.told told client old mid new oracle between oracle' table rows table' far.steps step;
   is = is ∙ ap (λ s. with_told s told) far.is ∙ sym (from_then no_steps far.told told);
@@ -246,9 +305,10 @@ one_more told client most old mid new oracle between oracle' table rows table' m
   within = let len = length_then far.told told in let count = far.counted refl in omega arith;
   counted = λ t. ap (λ (s : Stepped). s.count) is ∙ counts stepped told t ∙ ap suc (far.counted refl) ∙ sym (length_then far.told told);
   end = λ t. ap (λ (s : Stepped). s.end) is ∙ stays_all_made stepped told (far.end refl) t;
-  same = λ t. keeps_triples told client mid new between oracle' rows table' step t ∙ far.same refl;
+  same = λ t. keeps_aim told client mid new between oracle' rows table' step t ∙ far.same refl;
   sound = λ others sound. keeps others (far.sound others sound);
   triples = more_triples told client most old mid new oracle between oracle' table rows table' made middle stepped far step left;
+  queries = more_queries told client most old mid new oracle between oracle' table rows table' made middle stepped far step queries;
   memory = all_had_then far.told told far.memory;
   calls = makes_then (length far.told) _ oracle between oracle' made middle made' (length_then far.told told) far.calls one;
   count_calls = λ had. subst (λ (s : Stepped). MakesCallsOf s.count oracle oracle' made made') (sym is)
@@ -264,7 +324,7 @@ one_more told client most old mid new oracle between oracle' table rows table' m
 -- what the steps came to, where there was memory
 pub are_steps_of : (client most : ℕ) (old : List Busy) (oracle : Option Block) (table : Table) (made : ℕ) (going : Bool) (stepped : Stepped) (new : List Busy) (oracle' : Option Block) (table' : Table) (made' : ℕ) →
     SoFar client most old oracle table made going true stepped new oracle' table' made' → (going ≡ true → stepped.count < most → ⊥) →
-    (told : List Told) × (stepped ≡ stepped_from no_steps told) × AreStepsOf client most old oracle table told new oracle' table' × ((known : List Triple) → ChangesTriples old oracle table table' known (known_after (job_of old client) told known))
+    (told : List Told) × (stepped ≡ stepped_from no_steps told) × AreStepsOf client most old oracle table told new oracle' table' × ((known : List Triple) → ChangesTriples old oracle table table' known (known_after (job_of old client) told known)) × ((known : List Registration) → ChangesQueries old oracle table table' known (queries_known_after (job_of old client) told known))
 are_steps_of client most old oracle table made going stepped new oracle' table' made' far last = (
   far.told,
   far.is,
@@ -277,13 +337,14 @@ are_steps_of client most old oracle table made going stepped new oracle' table' 
     memory = far.memory;
   },
   far.triples,
+  far.queries,
 )
 
 -- and where there was none for the last
 pub wants_memory : (told : Told) (client most : ℕ) (old mid new : List Busy) (oracle between oracle' : Option Block) (table rows table' : Table) (made middle : ℕ) (stepped : Stepped) → SoFar client most old oracle table made true true stepped mid between rows middle → stepped.count < most →
-    IsStepOf told client mid between rows new oracle' table' → LeavesOf told client mid between rows table' → told ≡ Err txn_error.Memory →
-    (all : List Told) × WantsMemory client most old oracle table all new oracle' table' × ((known : List Triple) → ChangesTriples old oracle table table' known (known_after (job_of old client) all known))
-wants_memory told client most old mid new oracle between oracle' table rows table' made middle stepped far less step left short = (
+    IsStepOf told client mid between rows new oracle' table' → LeavesOf told client mid between rows table' → LeavesQueriesOf told client mid between rows table' → told ≡ Err txn_error.Memory →
+    (all : List Told) × WantsMemory client most old oracle table all new oracle' table' × ((known : List Triple) → ChangesTriples old oracle table table' known (known_after (job_of old client) all known)) × ((known : List Registration) → ChangesQueries old oracle table table' known (queries_known_after (job_of old client) all known))
+wants_memory told client most old mid new oracle between oracle' table rows table' made middle stepped far less step left queries short = (
   far.told ++ told ∷ [],
   record {
     steps = steps_then far.told told client old mid new oracle between oracle' table rows table' far.steps step;
@@ -293,6 +354,7 @@ wants_memory told client most old mid new oracle between oracle' table rows tabl
     within = let len = length_then far.told told in let count = far.counted refl in omega arith;
   },
   more_triples told client most old mid new oracle between oracle' table rows table' made middle stepped far step left,
+  more_queries told client most old mid new oracle between oracle' table rows table' made middle stepped far step queries,
 )
 
 -- ---- faults

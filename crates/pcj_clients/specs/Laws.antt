@@ -7,11 +7,12 @@ use Rattle.pcj_mvcc.specs.Reading.{Rows}
 use Rattle.pcj_moves.specs.Actors.{Actor, new_actor}
 use Rattle.pcj_actor.specs.StepLaws.{state_of}
 use Rattle.pcj_fit.specs.Laws as fit
+use Rattle.pcj_fit.specs.Queries.{HasQueries, Registration}
 use Rattle.pcj_fit.specs.Sound.{Sound}
 use Rattle.pcj_fit.specs.Triples.{HasTriples}
-use Rattle.pcj_client.specs.Job.{IsLoadJob, Job}
+use Rattle.pcj_client.specs.Job.{IsJob, Job, loaded}
 use Rattle.pcj_client.specs.Events as job_law
-use Rattle.pcj_client.specs.Events.{CommitsOnce, IsDrawing, IsMoved, IsTold, LeavesTriples, StepsOn, job_calls, triples_after}
+use Rattle.pcj_client.specs.Events.{CommitsOnce, IsDrawing, IsMoved, IsTold, LeavesQueries, LeavesTriples, StepsOn, job_calls, queries_after, triples_after}
 use Rattle.pcj_client.specs.declared.event.JobEvent.{JobEvent}
 use Rattle.pcj_clients.specs.Clients.{actors_of, after_step}
 use Rattle.pcj_clients.specs.declared.busy.Busy.{Busy}
@@ -24,10 +25,11 @@ pub record IsJobStep (job : Job) (client : ℕ) (old : List Busy) (oracle : Opti
   pub commits : CommitsOnce job event after
   pub moves : IsMoved job oracle table after oracle' table'
   pub on : StepsOn job after
-  pub is : IsLoadJob after
-  pub content : after.triples ≡ job.triples
+  pub is : IsJob after
+  pub content : after.content ≡ job.content
   pub sound : job_law.KeepsAllSound job oracle table after oracle' table'
-  pub triples : (known : List Triple) → LeavesTriples job oracle table table' known (triples_after event known job.triples)
+  pub triples : (known : List Triple) → LeavesTriples job oracle table table' known (triples_after event known (loaded job.content))
+  pub queries : (known : List Registration) → LeavesQueries job oracle table table' known event
   pub left : new ≡ after_step old client after event
 
 -- A client without a job changes nothing.
@@ -42,8 +44,13 @@ DrawsNext (Some job) = IsDrawing job
 
 -- the triples after a step of a client
 abbrev pub triples_then : Option Job → Option JobEvent → List Triple → List Triple
-triples_then (Some job) (Some event) known = triples_after event known job.triples
+triples_then (Some job) (Some event) known = triples_after event known (loaded job.content)
 triples_then _ _ known = known
+
+-- and the queries
+abbrev pub queries_then : Option Job → Option JobEvent → List Registration → List Registration
+queries_then (Some job) (Some event) known = queries_after event job known
+queries_then _ _ known = known
 
 -- how many calls of the table a step of a client makes at most
 abbrev pub calls_of : Option Job → Option Block → Table → ℕ
@@ -57,6 +64,10 @@ KeepsAllSound old oracle table new oracle' table' = (others : List Actor) → So
 -- and the table then has these triples, where it had those before
 abbrev pub ChangesTriples : List Busy → Option Block → Table → Table → List Triple → List Triple → Type 0
 ChangesTriples old oracle table table' before after = (others : List Actor) → Sound (state_of oracle table (actors_of old ++ others)) → HasTriples (row_at table) before → HasTriples (row_at table') after
+
+-- and these queries
+abbrev pub ChangesQueries : List Busy → Option Block → Table → Table → List Registration → List Registration → Type 0
+ChangesQueries old oracle table table' before after = (others : List Actor) → Sound (state_of oracle table (actors_of old ++ others)) → HasQueries (row_at table) before → HasQueries (row_at table') after
 
 -- ---- jobs that begin and end
 

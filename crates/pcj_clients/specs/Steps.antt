@@ -8,11 +8,12 @@ use Rattle.pcj_oracle.specs.Draw.{Keeps}
 use Rattle.pcj_oracle.specs.declared.block.Block.{Block}
 use Rattle.pcj_txn.specs.declared.error.TxnError.{TxnError}
 use Rattle.pcj_txn.specs.declared.error.TxnError.TheVariants as txn_error
+use Rattle.pcj_fit.specs.Queries.{Registration}
 use Rattle.pcj_client.specs.Job.{Job}
 use Rattle.pcj_client.specs.declared.event.JobEvent.{JobEvent}
 use Rattle.pcj_client.specs.declared.event.JobEvent.TheVariants as event
 use Rattle.pcj_clients.specs.Clients.{is_end, job_of}
-use Rattle.pcj_clients.specs.Laws.{DrawsNext, IsClientStep, triples_then}
+use Rattle.pcj_clients.specs.Laws.{DrawsNext, IsClientStep, queries_then, triples_then}
 use Rattle.pcj_clients.specs.declared.busy.Busy.{Busy}
 use Rattle.pcj_clients.specs.declared.stepped.Stepped.{Stepped}
 use Rattle.pcj_clients.specs.declared.stepped.StepsEnd.TheVariants as end
@@ -81,6 +82,12 @@ abbrev pub known_after : Option Job → List Told → List Triple → List Tripl
 known_after job [] known = known
 known_after job (Ok event ∷ more) known = known_after job more (triples_then job event known)
 known_after job (Err error ∷ more) known = known_after job more known
+
+-- and the queries
+abbrev pub queries_known_after : Option Job → List Told → List Registration → List Registration
+queries_known_after job [] known = known
+queries_known_after job (Ok event ∷ more) known = queries_known_after job more (queries_then job event known)
+queries_known_after job (Err error ∷ more) known = queries_known_after job more known
 
 -- The steps of a command that asks for so many: all of them, each after which the client has its job still, or fewer, up to one
 -- that ends the job or fails, or finds none. There was memory for each.

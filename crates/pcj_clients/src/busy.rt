@@ -1,4 +1,4 @@
-use pcj_client::LoadJob;
+use pcj_client::Job;
 
 /// A client with a job in flight.
 #[derive(Drop)]
@@ -6,5 +6,5 @@ pub struct Busy {
     /// The client's number, from 1 to 64.
     pub client: u8,
     /// Its job.
-    pub job: LoadJob,
+    pub job: Job,
 }

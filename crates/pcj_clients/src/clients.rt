@@ -1,19 +1,20 @@
-ghost use Rattle.std.specs.Prelude.{◌≡◌, ◌++◌, ◌∷◌, [], List, Some, None, is_some, IfOk, OnOk, OnErr, IsErrOf, ◌^◌, ◌≤◌, IfSome, IfNone};
+ghost use Rattle.std.specs.Prelude.{◌≡◌, ◌<◌, length, remove, ◌++◌, ◌∷◌, [], List, Some, None, is_some, IfOk, OnOk, OnErr, IsErrOf, ◌^◌, ◌≤◌, IfSome, IfNone};
 ghost use Rattle.pcj_term.specs.declared.triple.Triple.{Triple};
 ghost use Rattle.pcj_oracle.specs.Clock.{IsClock, next_number};
 ghost use Rattle.pcj_oracle.specs.Draw.{Keeps};
 ghost use Rattle.pcj_txn.specs.declared.error.TxnError.TheVariants.{Spent};
 ghost use Rattle.pcj_txn.specs.Errors.{HasTxnCause, MakesOneCall};
 ghost use Rattle.pcj_actor.specs.Progress.{MakesUpTo};
+ghost use Rattle.pcj_fit.specs.Queries.{Registration};
 ghost use Rattle.pcj_clients.specs.Clients.{IsPlaceOf, is_end, job_of, without_job};
 ghost use Rattle.pcj_io.specs.Faults.{Rose};
 ghost use Rattle.pcj_clients.specs.declared.stepped.StepsEnd.TheVariants.{Fault};
-ghost use Rattle.pcj_clients.specs.Steps.{AreStepsOf, MakesCallsOf, Told, WantsMemory, known_after, no_steps, stepped_from};
-ghost use Rattle.pcj_clients.specs.Laws.{BeginsSound, ChangesTriples, DrawsNext, EndsSound, IsClientStep, KeepsAllSound, calls_of, triples_then};
+ghost use Rattle.pcj_clients.specs.Steps.{AreStepsOf, MakesCallsOf, Told, WantsMemory, known_after, no_steps, queries_known_after, stepped_from};
+ghost use Rattle.pcj_clients.specs.Laws.{BeginsSound, ChangesQueries, ChangesTriples, DrawsNext, EndsSound, IsClientStep, KeepsAllSound, calls_of, queries_then, triples_then};
 
 use crate::busy::Busy;
 use crate::stepped::Stepped;
-use pcj_client::{JobEvent, LoadJob};
+use pcj_client::{Job, JobEvent};
 use pcj_oracle::Oracle;
 use pcj_table::RowTable;
 use pcj_term::Memory;
@@ -28,11 +29,15 @@ pub struct Clients {
 }
 
 impl Model for Clients {
+    ghost use Rattle.std.specs.Coded.{codes};
+    ghost use Rattle.pcj_expr.specs.contracts.expr.Expr as expr;
     ghost use Rattle.std.specs.Prelude.{◌≡◌, List, true};
     ghost use Rattle.pcj_clients.specs.Clients.{are_apart};
     ghost use Rattle.pcj_clients.specs.declared.busy.Busy.{Busy};
 
     ghost Value = { List Busy };
+
+    ghost coded = { Prim.hlevel (codes, expr.the_row.coded) };
 
     ghost view = { λ c. c.busy.items };
 
@@ -57,7 +62,7 @@ impl Clients {
     }
 
     /// Gives a job to a client that has none.
-    pub fn open(&mut self, client: u8, job: LoadJob) -> Result<(), Memory>
+    pub fn open(&mut self, client: u8, job: Job) -> Result<(), Memory>
         requires { job_of self.old client ≡ None }
         ensures ok { OnOk result (self.new ≡ self.old ++ (record { client = client; job = job }) ∷ []) }
         ensures err { OnErr result (self.new ≡ self.old) }
@@ -73,7 +78,7 @@ impl Clients {
         ensures sound { EndsSound self.old self.new }
     {
         if let Some(place) = place_of(&self.busy, client) {
-            self.busy.remove(place);
+            end(&mut self.busy, place);
         }
     }
 
@@ -87,10 +92,12 @@ impl Clients {
     ) -> Result<Option<JobEvent>, TxnError>
         requires { IsClock oracle.old (T.rows table.old) }
 
-        // What is told, and whoever else is at work: all stays sound, and the load's triples join with its commit.
+        // What is told, and whoever else is at work: all stays sound, and the job's triples or its query join with its
+        // commit.
         ensures told { IfOk result (λ told. IsClientStep (job_of self.old client) client self.old oracle.old (T.rows table.old) told self.new oracle.new (T.rows table.new)) }
         ensures sound { KeepsAllSound self.old oracle.old (T.rows table.old) self.new oracle.new (T.rows table.new) }
         ensures triples { (known : List Triple) → IfOk result (λ told. ChangesTriples self.old oracle.old (T.rows table.old) (T.rows table.new) known (triples_then (job_of self.old client) told known)) }
+        ensures queries { (known : List Registration) → IfOk result (λ told. ChangesQueries self.old oracle.old (T.rows table.old) (T.rows table.new) known (queries_then (job_of self.old client) told known)) }
 
         // What an error leaves.
         ensures same { OnErr result (self.new ≡ self.old) }
@@ -111,7 +118,7 @@ impl Clients {
         };
         let told = self.busy[place].job.step(table, oracle)?;
         if is_last(&told) {
-            self.busy.remove(place);
+            end(&mut self.busy, place);
         }
         Ok(Some(told))
     }
@@ -128,12 +135,12 @@ impl Clients {
         requires { IsClock oracle.old (T.rows table.old) }
 
         // What each step told, what they came to, and whoever else is at work: all stays sound.
-        ensures steps { IfOk result (λ stepped. (told : List Told) × (stepped ≡ stepped_from no_steps told) × AreStepsOf client most self.old oracle.old (T.rows table.old) told self.new oracle.new (T.rows table.new) × ((known : List Triple) → ChangesTriples self.old oracle.old (T.rows table.old) (T.rows table.new) known (known_after (job_of self.old client) told known))) }
+        ensures steps { IfOk result (λ stepped. (told : List Told) × (stepped ≡ stepped_from no_steps told) × AreStepsOf client most self.old oracle.old (T.rows table.old) told self.new oracle.new (T.rows table.new) × ((known : List Triple) → ChangesTriples self.old oracle.old (T.rows table.old) (T.rows table.new) known (known_after (job_of self.old client) told known)) × ((known : List Registration) → ChangesQueries self.old oracle.old (T.rows table.old) (T.rows table.new) known (queries_known_after (job_of self.old client) told known))) }
         ensures sound { KeepsAllSound self.old oracle.old (T.rows table.old) self.new oracle.new (T.rows table.new) }
         ensures clock { IsClock oracle.new (T.rows table.new) }
 
         // What want of memory leaves.
-        ensures memory { OnErr result ((told : List Told) × WantsMemory client most self.old oracle.old (T.rows table.old) told self.new oracle.new (T.rows table.new) × ((known : List Triple) → ChangesTriples self.old oracle.old (T.rows table.old) (T.rows table.new) known (known_after (job_of self.old client) told known))) }
+        ensures memory { OnErr result ((told : List Told) × WantsMemory client most self.old oracle.old (T.rows table.old) told self.new oracle.new (T.rows table.new) × ((known : List Triple) → ChangesTriples self.old oracle.old (T.rows table.old) (T.rows table.new) known (known_after (job_of self.old client) told known)) × ((known : List Registration) → ChangesQueries self.old oracle.old (T.rows table.old) (T.rows table.new) known (queries_known_after (job_of self.old client) told known))) }
 
         // When a fault is told.
         ensures later { T.failures table.old ≤ T.failures table.new }
@@ -159,6 +166,14 @@ impl Clients {
     {
         self.busy.clear();
     }
+}
+
+/// Ends the job at a place.
+fn end(busy: &mut Vec<Busy>, place: usize)
+    requires { place < length busy.old.items }
+    ensures { busy.new.items ≡ remove busy.old.items place }
+{
+    busy.remove(place);
 }
 
 /// Whether a job ends with this.

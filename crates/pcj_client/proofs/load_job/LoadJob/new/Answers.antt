@@ -1,6 +1,6 @@
 use Rattle.std.proofs.Common.{None, rules}
 use Rattle.pcj_client.proofs.JobLemmas.{begins, begins_empty}
-use Rattle.pcj_client.proofs.MoveLemmas.{load_job_of}
+use Rattle.pcj_client.proofs.LoadLemmas.{load_job_of}
 use Rattle.pcj_client.proofs.load_job.LoadJob.new.Goals as goal
 use Rattle.pcj_client.proofs.load_job.LoadJob.new.Goals.{then-is_empty, else-is_empty}
 

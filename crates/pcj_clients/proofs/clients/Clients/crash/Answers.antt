@@ -7,11 +7,11 @@ use Rattle.pcj_clients.proofs.SoundLemmas.{ends_sound}
 use Rattle.pcj_clients.proofs.clients.Clients.crash.Goals as goal
 
 pub invariant_of-self : goal.invariant_of-self
-invariant_of-self c = subst (λ cs. are_apart cs ≡ true) (sym (c.remove.ensures.items ∙ removes_at c.self.inside.busy.items c.args.client c.in-Some.place (subst (λ cs. IsPlaceOf cs c.args.client c.in-Some.place) c.deref.ensures.value c.in-Some.ensures.some)))
+invariant_of-self c = subst (λ cs. are_apart cs ≡ true) (sym (c.end.ensures ∙ removes_at c.self.inside.busy.items c.args.client c.in-Some.place (subst (λ cs. IsPlaceOf cs c.args.client c.in-Some.place) c.deref.ensures.value c.in-Some.ensures.some)))
     (apart_without c.self.inside.busy.items c.args.client c.self.invariant)
 
 pub returns-in-Some-clause-jobs : goal.returns-in-Some-clause-jobs
-returns-in-Some-clause-jobs c = c.remove.ensures.items ∙ removes_at c.self.inside.busy.items c.args.client c.in-Some.place (subst (λ cs. IsPlaceOf cs c.args.client c.in-Some.place) c.deref.ensures.value c.in-Some.ensures.some)
+returns-in-Some-clause-jobs c = c.end.ensures ∙ removes_at c.self.inside.busy.items c.args.client c.in-Some.place (subst (λ cs. IsPlaceOf cs c.args.client c.in-Some.place) c.deref.ensures.value c.in-Some.ensures.some)
     ∙ ap (λ (cs : List Busy). without_job cs c.args.client) c.self.view_is
 
 pub returns-in_default-clause-jobs : goal.returns-in_default-clause-jobs
