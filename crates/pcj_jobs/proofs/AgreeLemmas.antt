@@ -1,9 +1,9 @@
--- What the state of a transcript says stays true with a step of a load.
-use Rattle.std.proofs.Common.{◌≡◌, ◌⊎◌, inl, inr, ◌≤◌, ◌<◌, ◌+◌, ℕ, Bool, true, false, not, ◌==◌, List, [], ◌∷◌, ◌++◌, filter, Option, Some, None, refl, ap, sym, subst, ◌∙◌, arith, cond, if◌then◌else◌}
+-- What the state of a transcript says stays true with a step of a job.
+use Rattle.std.proofs.Common.{◌≡◌, ◌≢◌, ◌⊎◌, inl, inr, ◌≤◌, ◌<◌, ◌+◌, ℕ, Bool, true, false, not, ◌==◌, List, [], ◌∷◌, ◌++◌, filter, Option, Some, None, refl, ap, sym, subst, ◌∙◌, arith, cond, if◌then◌else◌}
 use Rattle.std.proofs.lemmas.Bool.{eqb-true}
 use Rattle.std.proofs.lemmas.List.{append_assoc}
 use Rattle.std.proofs.lemmas.List.Elements.{All-append, All-filter, Contains-append_cases, Contains-append_left, Contains-append_right}
-use Rattle.std.specs.List.{All, Contains, list_any}
+use Rattle.std.specs.List.{All, Contains}
 use Rattle.std.specs.Option.{option_map}
 use Rattle.pcj_term.proofs.ListLemmas.{first_or_later, first_there, later_there, passed_by_one}
 use Rattle.pcj_term.proofs.Same.{same_triple_true}
@@ -14,7 +14,7 @@ use Rattle.pcj_oracle.specs.Clock.{next_number}
 use Rattle.pcj_oracle.specs.declared.block.Block.{Block}
 use Rattle.pcj_encode.specs.Name.{IsTriple}
 use Rattle.pcj_mvcc.specs.Reading.{Rows}
-use Rattle.pcj_moves.specs.Actors.{Actor, IsSound}
+use Rattle.pcj_moves.specs.Actors.{Actor, ArePair, IsSound}
 use Rattle.pcj_moves.specs.Moves.{IsAllowed, Makes, Move, CommitNothing, CommitPrimary, CommitSecondary, Draw, DropPrimary, EndRecovery, Learn, Meet, Plan, Prewrite, Read, RollBack, RollForward, WritePlain, actor_after, number_after, rows_after}
 use Rattle.pcj_moves.proofs.ActorLemmas.{each_contains, each_sound}
 use Rattle.pcj_actor.specs.StepLaws.{state_of}
@@ -22,7 +22,8 @@ use Rattle.pcj_fit.specs.Sound.{Sound}
 use Rattle.pcj_fit.specs.Triples.{HasTriples}
 use Rattle.pcj_pending.proofs.MoveLemmas.{steps_add}
 use Rattle.pcj_pending.specs.Laws.{AddsAtMost}
-use Rattle.pcj_client.specs.Job.{Job}
+use Rattle.pcj_client.specs.Job.{Content, Job, loaded}
+use Rattle.pcj_client.specs.Job.Content.{Loads, Registers}
 use Rattle.pcj_client.specs.Events.{HasMoved, PrewritesOne, ReadsOne, triples_after}
 use Rattle.pcj_client.specs.declared.event.JobEvent.{JobEvent}
 use Rattle.pcj_client.specs.declared.event.JobEvent.TheVariants as does
@@ -32,13 +33,16 @@ use Rattle.pcj_clients.specs.declared.busy.Busy.{Busy}
 use Rattle.pcj_clients.proofs.JobLemmas.{apart_after, around}
 use Rattle.pcj_clients.proofs.SoundLemmas.{comes_first}
 use Rattle.pcj_model.specs.Job as told
-use Rattle.pcj_model.specs.State.{State, all_beside, joined_by, last_after, stepped, with_job}
+use Rattle.pcj_model.specs.State.{State, all_beside, joined_by, last_after, names_joined, stepped, with_job}
 use Rattle.pcj_jobs.specs.Agrees.{Agrees, commit_told, known_after}
-use Rattle.pcj_jobs.specs.Known.{AreKnown, IsKnown, IsKnownOf}
+use Rattle.pcj_jobs.specs.Known.{AreKnown, IsContentOf, IsKnown, IsKnownOf}
 use Rattle.pcj_jobs.proofs.BesideLemmas.{beside_job}
 use Rattle.pcj_jobs.proofs.ClientLemmas.{its_actor, with_other, with_own, without_other, without_own}
+use Rattle.pcj_jobs.proofs.ContentLemmas.{IsValidContent}
+use Rattle.pcj_jobs.proofs.JobLemmas.{valid_content}
 use Rattle.pcj_jobs.proofs.KnownLemmas.{known_as}
-use Rattle.pcj_jobs.proofs.StepLemmas.{committed_with, joins, own_known, step_untouched}
+use Rattle.pcj_jobs.proofs.QueryLemmas.{queries_then}
+use Rattle.pcj_jobs.proofs.StepLemmas.{committed_with, joins, names_joining, own_known, step_untouched}
 
 -- ---- numbers
 
@@ -116,16 +120,29 @@ pub append_nil : (xs : List Triple) → xs ++ [] ≡ xs
 append_nil [] = refl
 append_nil (x ∷ xs) = ap (λ ys. x ∷ ys) (append_nil xs)
 
-triples_then : (rows rows' : Rows) (event : JobEvent) (known triples : List Triple) → HasTriples rows known → All IsTriple triples → HasTriples rows' (triples_after event known triples) → HasTriples rows' (known ++ joins known triples (commit_told event))
-triples_then rows rows' does.Worked known triples had valid has = subst (HasTriples rows') (sym (append_nil known)) has
-triples_then rows rows' (does.Committed commit) known triples had valid has = joined_are_there rows' known triples had.valid valid has
-triples_then rows rows' does.Done known triples had valid has = subst (HasTriples rows') (sym (append_nil known)) has
-triples_then rows rows' does.Aborted known triples had valid has = subst (HasTriples rows') (sym (append_nil known)) has
-triples_then rows rows' does.Taken known triples had valid has = subst (HasTriples rows') (sym (append_nil known)) has
+triples_with : (rows : Rows) (known : List Triple) (start : ℕ) (content : Content) (told_of : told.Content) → All IsTriple known → IsValidContent start content → IsContentOf content told_of → HasTriples rows (known ++ loaded content) →
+    HasTriples rows (known ++ filter (λ triple. not (told.is_among known triple)) (told.triples_of told_of))
+triples_with rows known start (Loads triples) (told.Content.Load its) had valid is has =
+    subst (λ ts. HasTriples rows (known ++ filter (λ triple. not (told.is_among known triple)) ts)) (sym is) (joined_are_there rows known triples had valid has)
+triples_with rows known start (Loads triples) (told.Content.Registration name query) had valid is has = absurd is
+triples_with rows known start (Registers name tree) (told.Content.Load its) had valid is has = absurd is
+triples_with rows known start (Registers name tree) (told.Content.Registration its query) had valid is has = has
 
-pub joined_is : (state : State) (known : told.Job) (commit : Option ℕ) → joined_by state known commit ≡ joins state.triples known.triples commit
+triples_then : (rows rows' : Rows) (event : JobEvent) (known : List Triple) (start : ℕ) (content : Content) (told_of : told.Content) → HasTriples rows known → IsValidContent start content → IsContentOf content told_of → HasTriples rows' (triples_after event known (loaded content)) →
+    HasTriples rows' (known ++ joins known told_of (commit_told event))
+triples_then rows rows' does.Worked known start content told_of had valid is has = subst (HasTriples rows') (sym (append_nil known)) has
+triples_then rows rows' (does.Committed commit) known start content told_of had valid is has = triples_with rows' known start content told_of had.valid valid is has
+triples_then rows rows' does.Done known start content told_of had valid is has = subst (HasTriples rows') (sym (append_nil known)) has
+triples_then rows rows' does.Aborted known start content told_of had valid is has = subst (HasTriples rows') (sym (append_nil known)) has
+triples_then rows rows' does.Taken known start content told_of had valid is has = subst (HasTriples rows') (sym (append_nil known)) has
+
+pub joined_is : (state : State) (known : told.Job) (commit : Option ℕ) → joined_by state known commit ≡ joins state.triples known.content commit
 joined_is state known None = refl
 joined_is state known (Some commit) = refl
+
+names_are : (known : told.Job) (commit : Option ℕ) → names_joined known commit ≡ names_joining known.content commit
+names_are known None = refl
+names_are known (Some commit) = refl
 
 -- ---- what is known of a client
 
@@ -167,17 +184,17 @@ is_made client old oracle table event new oracle' table' job more some step soun
 
 pub step_known : (client : ℕ) (old : List Busy) (oracle : Option Block) (table : Table) (event : JobEvent) (new : List Busy) (oracle' : Option Block) (table' : Table) (job : Job) (state : State) (found : HasKnown (row_at table) job (state.jobs client)) → job_of old client ≡ Some job →
     (step : IsJobStep job client old oracle table event new oracle' table') → IsMade client old job oracle table step.after oracle' table' → HasTriples (row_at table) state.triples → AreKnown (row_at table) old state.jobs →
-    AreKnown (row_at table') new (with_job (all_beside (joined_by state found.known (commit_told event)) state.jobs) client (known_after found.known event))
+    AreKnown (row_at table') new (with_job (all_beside (joined_by state found.known (commit_told event)) (names_joined found.known (commit_told event)) state.jobs) client (known_after found.known event))
 step_known client old oracle table event new oracle' table' job state found some step made has are = record {
   apart = subst (λ cs. Rattle.pcj_clients.specs.Clients.are_apart cs ≡ true) (sym step.left) (apart_after old client step.after event are.apart);
   each = λ other. by other (other == client) refl;
 }
   where
-    known : told.Job
-    known = found.known
-
     joined : List Triple
-    joined = joined_by state known (commit_told event)
+    joined = joined_by state found.known (commit_told event)
+
+    names : List (List ℕ)
+    names = names_joined found.known (commit_told event)
 
     own : IsKnown (row_at table') step.after (told.grown found.known (commit_told event) 1)
     own = own_known job step.after event (next_number oracle table) (row_at table) (next_number oracle' table') (row_at table') made.others made.moved.moves found.known step.commits step.is step.content step.on.start step.on.one
@@ -194,27 +211,30 @@ step_known client old oracle table event new oracle' table' job state found some
     after_other other apart true e = ap (λ b. job_of (if b then without_job old client else with_client old client step.after) other) e ∙ without_other old client other apart
     after_other other apart false e = ap (λ b. job_of (if b then without_job old client else with_client old client step.after) other) e ∙ with_other old client other step.after apart
 
-    beside_them : (other : ℕ) → (other == client) ≡ false → (its : Option Job) → job_of old other ≡ its → (told_of : Option told.Job) → IsKnownOf (row_at table) its told_of → IsKnownOf (row_at table') its (option_map (told.beside (joined_by state found.known (commit_told event))) told_of)
+    starts_differ : (other : ℕ) (its : Job) → (other == client) ≡ false → job_of old other ≡ Some its → its.actor.start ≢ step.after.actor.start
+    starts_differ other its apart has same =
+        (each_contains (λ (a : Actor). ArePair (row_at table') step.after.actor a × ArePair (row_at table') a step.after.actor) made.others its.actor made.sound.consistent.sound.1 (made.there other its apart has)).0.apart.starts (sym same)
+
+    beside_them : (other : ℕ) → (other == client) ≡ false → (its : Option Job) → job_of old other ≡ its → (told_of : Option told.Job) → IsKnownOf (row_at table) its told_of → IsKnownOf (row_at table') its (option_map (told.beside joined names) told_of)
     beside_them other apart None e None is = tt
     beside_them other apart None e (Some other_known) is = absurd is
     beside_them other apart (Some its) e None is = absurd is
     beside_them other apart (Some its) e (Some other_known) is =
-        beside_job (row_at table) (row_at table') its other_known (joined_by state found.known (commit_told event))
+        beside_job (row_at table) (row_at table') its other_known joined names
         (each_contains (IsSound (row_at table')) made.others its.actor (each_sound (row_at table') made.others made.sound.consistent.sound.2) (made.there other its apart e)).transacts
-        (λ undone none untouched. step_untouched job step.after event (next_number oracle table) (row_at table) (next_number oracle' table') (row_at table') made.others made.moved.moves state.triples its.triples its.actor.start step.commits step.is step.content
-        made.moved.makes made.before.consistent made.sound.consistent.sound.0.reads has is.load.load.valid
-        (ap (λ ts. list_any (told.is_among its.triples) (joins state.triples ts (commit_told event))) (sym found.is.triples)
-        ∙ ap (list_any (told.is_among its.triples)) (sym (joined_is state found.known (commit_told event)))
-        ∙ ap (λ ts. list_any (told.is_among ts) (joined_by state found.known (commit_told event))) (sym is.triples) ∙ none)
+        (λ undone none untouched. step_untouched job step.after event (next_number oracle table) (row_at table) (next_number oracle' table') (row_at table') made.others made.moved.moves found.known.content state.triples its.content other_known.content its.actor.start step.commits step.is step.content
+        made.moved.makes made.before.consistent made.sound.consistent.sound.0.reads has found.is.content is.content (valid_content its is.is) (starts_differ other its apart e)
+        (ap (λ ts. told.is_rival other_known.content ts (names_joining found.known.content (commit_told event))) (sym (joined_is state found.known (commit_told event)))
+        ∙ ap (told.is_rival other_known.content joined) (sym (names_are found.known (commit_told event))) ∙ none)
         untouched) is
 
-    by : (other : ℕ) (b : Bool) → (other == client) ≡ b → IsKnownOf (row_at table') (job_of new other) (with_job (all_beside (joined_by state found.known (commit_told event)) state.jobs) client (known_after found.known event) other)
+    by : (other : ℕ) (b : Bool) → (other == client) ≡ b → IsKnownOf (row_at table') (job_of new other) (with_job (all_beside joined names state.jobs) client (known_after found.known event) other)
     by other true e = known_as (row_at table') (job_of (after_step old client step.after event) client) _ (known_after found.known event) _
         (ap (λ cs. job_of cs other) step.left ∙ ap (job_of (after_step old client step.after event)) (eqb-true other client e))
-        (ap (λ b. if b then known_after found.known event else all_beside (joined_by state found.known (commit_told event)) state.jobs other) e) (after_own (is_end event) refl)
-    by other false e = known_as (row_at table') (job_of old other) _ (all_beside (joined_by state found.known (commit_told event)) state.jobs other) _
+        (ap (λ b. if b then known_after found.known event else all_beside joined names state.jobs other) e) (after_own (is_end event) refl)
+    by other false e = known_as (row_at table') (job_of old other) _ (all_beside joined names state.jobs other) _
         (ap (λ cs. job_of cs other) step.left ∙ after_other other e (is_end event) refl)
-        (ap (λ b. if b then known_after found.known event else all_beside (joined_by state found.known (commit_told event)) state.jobs other) e)
+        (ap (λ b. if b then known_after found.known event else all_beside joined names state.jobs other) e)
         (beside_them other e (job_of old other) refl (state.jobs other) (are.each other))
 
 last_below : (last : ℕ) (commit : Option ℕ) (number number' : ℕ) → last < number → number ≤ number' → ((c : ℕ) → commit ≡ Some c → c < number) → last_after last commit < number'
@@ -226,8 +246,9 @@ pub made_agrees : (client : ℕ) (old : List Busy) (oracle : Option Block) (tabl
     Agrees oracle' table' new (stepped state client found.known (commit_told event) (known_after found.known event) 1)
 made_agrees client old oracle table event new oracle' table' job state found some step made agrees = record {
   known = step_known client old oracle table event new oracle' table' job state found some step made agrees.triples agrees.known;
-  triples = subst (λ ts. HasTriples (row_at table') (state.triples ++ ts)) (ap (λ ts. joins state.triples ts (commit_told event)) (sym found.is.triples) ∙ sym (joined_is state found.known (commit_told event)))
-      (triples_then (row_at table) (row_at table') event state.triples job.triples agrees.triples found.is.load.load.valid (step.triples state.triples made.others made.before agrees.triples));
+  triples = subst (λ ts. HasTriples (row_at table') (state.triples ++ ts)) (sym (joined_is state found.known (commit_told event)))
+      (triples_then (row_at table) (row_at table') event state.triples job.actor.start job.content found.known.content agrees.triples (valid_content job found.is.is) found.is.content (step.triples state.triples made.others made.before agrees.triples));
+  queries = queries_then (row_at table') event job found.known state.queries agrees.queries.known agrees.queries.trees found.is.start found.is.content (step.queries agrees.queries.known made.others made.before agrees.queries.has).1;
   last = last_below state.last (commit_told event) (next_number oracle table) (next_number oracle' table') agrees.last
       (numbers_rise made.moved.moves (next_number oracle table) (row_at table) job.actor (next_number oracle' table') (row_at table') step.after.actor made.moved.makes)
       (λ commit e. made.before.consistent.older.0.below.commit commit (committed_with event job step.after commit step.commits e).0);

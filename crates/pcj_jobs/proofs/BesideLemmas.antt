@@ -1,8 +1,8 @@
 -- What is known stays true beside moves of somebody else.
-use Rattle.std.proofs.Common.{◌≡◌, ◌⊎◌, inl, inr, ◌≤◌, ◌+◌, ℕ, zero, suc, Bool, true, false, ◌||◌, is_some, nat_le, List, [], ◌∷◌, ◌++◌, length, take, Option, Some, None, refl, ap, sym, subst, ◌∙◌, arith}
+use Rattle.std.proofs.Common.{◌≡◌, ◌⊎◌, inl, inr, ◌≤◌, ℕ, zero, suc, Bool, true, false, ◌||◌, is_some, nat_le, List, [], ◌∷◌, ◌++◌, take, Option, Some, None, refl, ap, sym, subst, ◌∙◌, arith}
 use Rattle.std.proofs.lemmas.Bool.{leb-false}
 use Rattle.std.proofs.lemmas.List.Elements.{Contains-append_left}
-use Rattle.std.specs.List.{Contains, list_any}
+use Rattle.std.specs.List.{Contains}
 use Rattle.std.specs.Option.{option_map}
 use Rattle.pcj_term.specs.declared.triple.Triple.{Triple}
 use Rattle.pcj_mvcc.specs.Acts.{lock_of}
@@ -20,6 +20,7 @@ use Rattle.pcj_model.specs.Job as told
 use Rattle.pcj_jobs.specs.Known.{AreUntouched, IsKnown, IsKnownOf}
 use Rattle.pcj_jobs.specs.Laws.{BesideKnown}
 use Rattle.pcj_jobs.proofs.ClientLemmas.{its_actor}
+use Rattle.pcj_jobs.proofs.KnownLemmas.{untouched_alike}
 
 -- ---- moves that commit nothing
 
@@ -78,7 +79,7 @@ moves_read_alike (move ∷ moves) number rows actor number' rows' actor' others 
     λ key. moves_read_alike moves (number_after move number) (rows_after move actor rows) (actor_after move rows actor) number' rows' actor' others makes.1
     (move_is_consistent number rows actor others move makes.0 is) (same ∙ sym mid) key ∙ move_reads_alike move number rows actor others makes.0 is mid key
 
--- ---- one load beside them
+-- ---- one job beside them
 
 -- where nothing is prewritten all is held
 pub nothing_held : (start : ℕ) (transaction : Transaction) (rows : Rows) → Transacts start transaction (traces start rows) → transaction.committed ≡ false → transaction.prewritten ≡ 0 → IsHeld (lock_at start transaction) (traces start rows)
@@ -88,36 +89,35 @@ nothing_held start transaction rows transacts undone none = by (transacts.undone
     by (inl held) = held
     by (inr lost) = absurd (let clash : false ≡ true = ap (λ n. is_some (option_map (λ w. lock_of w start (primary_of transaction)) (write_at (take n transaction.writes) (primary_of transaction)))) (sym none) ∙ lost.some in cc)
 
-or_parts : (a b : Bool) → (a || b) ≡ false → (a ≡ false) × (b ≡ false)
+pub or_parts : (a b : Bool) → (a || b) ≡ false → (a ≡ false) × (b ≡ false)
 or_parts true b e = absurd cc
 or_parts false b e = (refl, e)
 
-pub beside_job : (rows rows' : Rows) (job : Job) (known : told.Job) (joined : List Triple) → Transacts job.actor.start job.actor.transaction (traces job.actor.start rows') →
-    (job.actor.transaction.committed ≡ false → list_any (told.is_among known.triples) joined ≡ false → AreUntouched rows job.actor.start job.triples → AreUntouched rows' job.actor.start job.triples) →
-    IsKnown rows job known → IsKnown rows' job (told.beside joined known)
-beside_job rows rows' job known joined transacts reads is = record {
+pub beside_job : (rows rows' : Rows) (job : Job) (known : told.Job) (joined : List Triple) (names : List (List ℕ)) → Transacts job.actor.start job.actor.transaction (traces job.actor.start rows') →
+    (job.actor.transaction.committed ≡ false → told.is_rival known.content joined names ≡ false → AreUntouched rows job.actor.start job.content → AreUntouched rows' job.actor.start job.content) →
+    IsKnown rows job known → IsKnown rows' job (told.beside joined names known)
+beside_job rows rows' job known joined names transacts reads is = record {
   start = is.start;
-  triples = is.triples;
+  content = is.content;
   is_committed = is.is_committed;
-  load = is.load;
+  is = is.is;
   answers = is.answers;
   prewritten = is.prewritten;
   held = λ undone met. nothing_held job.actor.start job.actor.transaction rows' transacts undone (none (or_parts known.met _ met).1);
-  untouched = λ undone rival. let parts = or_parts known.rival (list_any (told.is_among known.triples) joined) rival in reads undone parts.1 (is.untouched undone parts.0);
+  untouched = λ undone rival. let parts = or_parts known.rival (told.is_rival known.content joined names) rival in reads undone parts.1 (is.untouched undone parts.0);
 }
   where
-    none : nat_le (length known.triples + 1) known.steps ≡ false → job.actor.transaction.prewritten ≡ 0
+    none : nat_le (told.first_of known.content) known.steps ≡ false → job.actor.transaction.prewritten ≡ 0
     none few = by job.actor.transaction.prewritten refl
       where
         by : (n : ℕ) → job.actor.transaction.prewritten ≡ n → job.actor.transaction.prewritten ≡ 0
         by zero e = e
         by (suc n) e = absurd (
-            let more : length job.triples + 1 ≤ known.steps = is.prewritten (omega (arith, e)) in
-            let less = leb-false (length known.triples + 1) known.steps few in
-            let same = ap length is.triples in omega (arith, more, less, same)
+            let more : told.first_of known.content ≤ known.steps = is.prewritten (omega (arith, e)) in
+            let less = leb-false (told.first_of known.content) known.steps few in omega (arith, more, less)
             )
 
--- ---- all loads
+-- ---- all jobs
 
 sound_of : (rows : Rows) (actors : List Actor) (actor : Actor) → Rattle.pcj_moves.specs.Actors.AreSound rows actors → Contains actors actor → IsSound rows actor
 sound_of rows actors actor sound there = each_contains (IsSound rows) actors actor (each_sound rows actors sound) there
@@ -131,10 +131,10 @@ beside_known moves number rows actor number' rows' actor' others clients jobs ma
     alike : SameReading rows rows'
     alike = moves_read_alike moves number rows actor number' rows' actor' (actors_of clients ++ others) makes sound.consistent same
 
-    by : (client : ℕ) (job : Option Job) → job_of clients client ≡ job → (known : Option told.Job) → IsKnownOf rows job known → IsKnownOf rows' job (option_map (told.beside []) known)
+    by : (client : ℕ) (job : Option Job) → job_of clients client ≡ job → (known : Option told.Job) → IsKnownOf rows job known → IsKnownOf rows' job (option_map (told.beside [] []) known)
     by client None e None is = tt
     by client None e (Some known) is = absurd is
     by client (Some job) e None is = absurd is
-    by client (Some job) e (Some known) is = beside_job rows rows' job known []
+    by client (Some job) e (Some known) is = beside_job rows rows' job known [] []
         (sound_of rows' (actors_of clients ++ others) job.actor after.sound.2 (Contains-append_left (actors_of clients) others job.actor (its_actor clients client job e))).transacts
-        (λ undone none untouched triple its key row. ap (Rattle.pcj_table.specs.Row.are_below job.actor.start) (alike key) ∙ untouched triple its key row) is
+        (λ undone none. untouched_alike rows rows' job.actor.start job.content alike) is

@@ -35,6 +35,7 @@ use Rattle.pcj_moves.proofs.StepLemmas.{AtPrimary, at_primary, names_one, trace_
 use Rattle.pcj_fit.specs.Plans.{AreReadOf, IsLoadPlan, absent_of, put_mark, task_key}
 use Rattle.pcj_fit.specs.Triples.{HasTriples}
 use Rattle.pcj_fit.proofs.PlanLemmas.{Mark, absent_all, as_task, by_order, is_among, mark_key, mark_written, written_by}
+use Rattle.pcj_client.specs.Job.Content.{Loads}
 use Rattle.pcj_model.specs.Job as told
 use Rattle.pcj_jobs.specs.Known.{AreUntouched, is_row_of}
 
@@ -207,11 +208,11 @@ locked_is_new number rows actor others write commit last answers triples triple 
         ∙ absent_unseen last actor.start triples answers triple plan.reads reads there
 
 -- So the rows of others' triples stay untouched, unless one of them joins.
-pub untouched_by_commit : (number : ℕ) (rows : Rows) (actor : Actor) (others : List Actor) (write : Write) (commit : ℕ) (first last : Rows) (answers : List Answer) (triples known : List Triple) (time : ℕ) (its : List Triple) →
+pub untouched_by_load : (number : ℕ) (rows : Rows) (actor : Actor) (others : List Actor) (write : Write) (commit : ℕ) (first last : Rows) (answers : List Answer) (triples known : List Triple) (time : ℕ) (its : List Triple) →
     IsConsistent (record { number = number; rows = rows; actors = actor ∷ others }) → MayCommitPrimary rows actor write commit → SameReading first rows → SameReading (acted rows write.key (commit_act write actor.start commit)) last →
     IsLoadPlan actor.start answers actor.transaction.writes triples → Reads last actor.start answers → HasTriples first known → All IsTriple its →
-    list_any (told.is_among its) (filter (λ triple. not (told.is_among known triple)) triples) ≡ false → AreUntouched first time its → AreUntouched last time its
-untouched_by_commit number rows actor others write commit first last answers triples known time its is may before same plan reads has valid none untouched triple there key row =
+    list_any (told.is_among its) (filter (λ triple. not (told.is_among known triple)) triples) ≡ false → AreUntouched first time (Loads its) → AreUntouched last time (Loads its)
+untouched_by_load number rows actor others write commit first last answers triples known time its is may before same plan reads has valid none untouched triple there key row =
     ap (are_below time) (same key) ∙ by (lock_cases (rows key).lock actor.start)
   where
     facts : Facts rows actor write commit

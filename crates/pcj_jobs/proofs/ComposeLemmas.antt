@@ -1,6 +1,5 @@
 -- The steps of a command come to one change of the state of a transcript.
-use Rattle.std.proofs.Common.{◌≡◌, ◌⊎◌, inl, inr, ◌≤◌, ◌+◌, ℕ, Bool, true, false, ◌||◌, ◌==◌, is_some, nat_le, List, [], ◌++◌, length, filter, not, Option, Some, None, refl, ap, ap₂, sym, subst, ◌∙◌, arith, if◌then◌else◌}
-use Rattle.std.specs.List.{list_any}
+use Rattle.std.proofs.Common.{◌≡◌, ◌⊎◌, inl, inr, ◌≤◌, ◌+◌, ℕ, Bool, true, false, ◌||◌, ◌==◌, is_some, nat_le, List, [], ◌++◌, filter, not, Option, Some, None, refl, ap, ap₂, sym, subst, ◌∙◌, arith, if◌then◌else◌}
 use Rattle.std.specs.Option.{option_map}
 use Rattle.pcj_term.specs.declared.triple.Triple.{Triple}
 use Rattle.pcj_table.specs.Table.{Table, row_at}
@@ -10,8 +9,8 @@ use Rattle.pcj_pending.specs.Pending.{locks_of, notifications_of}
 use Rattle.pcj_clients.specs.Clients.{job_of}
 use Rattle.pcj_clients.specs.declared.busy.Busy.{Busy}
 use Rattle.pcj_model.specs.Job as told
-use Rattle.pcj_model.specs.State.{Backlog, State, all_beside, joined_by, stepped, with_job}
-use Rattle.pcj_jobs.specs.Agrees.{Agrees}
+use Rattle.pcj_model.specs.State.{Backlog, State, all_beside, joined_by, names_joined, stepped, with_job}
+use Rattle.pcj_jobs.specs.Agrees.{Agrees, HasRegistered}
 use Rattle.pcj_jobs.specs.Known.{IsKnownOf}
 use Rattle.pcj_jobs.proofs.AgreeLemmas.{append_nil}
 
@@ -19,6 +18,7 @@ use Rattle.pcj_jobs.proofs.AgreeLemmas.{append_nil}
 
 pub record SayTheSame (state other : State) : Type 0 where
   pub triples : other.triples ≡ state.triples
+  pub queries : other.queries ≡ state.queries
   pub jobs : (client : ℕ) → other.jobs client ≡ state.jobs client
   pub last : other.last ≡ state.last
   pub backlog : other.backlog ≡ state.backlog
@@ -27,6 +27,7 @@ pub agrees_as : (oracle : Option Block) (table : Table) (clients : List Busy) (s
 agrees_as oracle table clients state other same agrees = record {
   known = record { apart = agrees.known.apart; each = λ client. subst (λ k. IsKnownOf (row_at table) (job_of clients client) k) (sym (same.jobs client)) (agrees.known.each client) };
   triples = subst (HasTriples (row_at table)) (sym same.triples) agrees.triples;
+  queries = subst (HasRegistered (row_at table)) (sym same.queries) agrees.queries;
   last = let less = agrees.last in let is = same.last in omega (arith, less, is);
   locks = subst (λ (b : Backlog). locks_of table ≤ b.most_locks) (sym same.backlog) agrees.locks;
   notifications = subst (λ (b : Backlog). notifications_of table ≤ b.most_locks + b.old_notifications) (sym same.backlog) agrees.notifications;
@@ -34,7 +35,7 @@ agrees_as oracle table clients state other same agrees = record {
   quiet = λ is. agrees.quiet (ap (λ (b : Backlog). b.is_quiet) (sym same.backlog) ∙ is);
 }
 
--- ---- one load
+-- ---- one job
 
 or_false : (b : Bool) → (b || false) ≡ b
 or_false true = refl
@@ -46,23 +47,31 @@ or_twice false true = refl
 or_twice false false = refl
 
 abbrev job_as : told.Job → Bool → Bool → told.Job
-job_as job met rival = record { start = job.start; triples = job.triples; is_committed = job.is_committed; steps = job.steps; met = met; rival = rival }
+job_as job met rival = record { start = job.start; content = job.content; is_committed = job.is_committed; steps = job.steps; met = met; rival = rival }
 
-beside_then : (joined : List Triple) (job : told.Job) → told.beside joined (told.beside [] job) ≡ told.beside joined job
-beside_then joined job =
-    ap₂ (job_as job) (or_twice job.met (nat_le (length job.triples + 1) job.steps)) (ap (λ b. b || list_any (told.is_among job.triples) joined) (or_false job.rival))
+-- where nothing joined nobody is a rival
+no_rival : (content : told.Content) → told.is_rival content [] [] ≡ false
+no_rival (told.Content.Load triples) = refl
+no_rival (told.Content.Registration name query) = refl
 
-then_beside : (joined : List Triple) (job : told.Job) → told.beside [] (told.beside joined job) ≡ told.beside joined job
-then_beside joined job =
-    ap₂ (job_as job) (or_twice job.met (nat_le (length job.triples + 1) job.steps)) (or_false (job.rival || list_any (told.is_among job.triples) joined))
+none_joined : (b : Bool) (content : told.Content) → (b || told.is_rival content [] []) ≡ b
+none_joined b content = ap (λ rival. b || rival) (no_rival content) ∙ or_false b
 
-map_beside_then : (joined : List Triple) (found : Option told.Job) → option_map (told.beside joined) (option_map (told.beside []) found) ≡ option_map (told.beside joined) found
-map_beside_then joined None = refl
-map_beside_then joined (Some job) = ap Some (beside_then joined job)
+beside_then : (joined : List Triple) (names : List (List ℕ)) (job : told.Job) → told.beside joined names (told.beside [] [] job) ≡ told.beside joined names job
+beside_then joined names job =
+    ap₂ (job_as job) (or_twice job.met (nat_le (told.first_of job.content) job.steps)) (ap (λ b. b || told.is_rival job.content joined names) (none_joined job.rival job.content))
 
-map_then_beside : (joined : List Triple) (found : Option told.Job) → option_map (told.beside []) (option_map (told.beside joined) found) ≡ option_map (told.beside joined) found
-map_then_beside joined None = refl
-map_then_beside joined (Some job) = ap Some (then_beside joined job)
+then_beside : (joined : List Triple) (names : List (List ℕ)) (job : told.Job) → told.beside [] [] (told.beside joined names job) ≡ told.beside joined names job
+then_beside joined names job =
+    ap₂ (job_as job) (or_twice job.met (nat_le (told.first_of job.content) job.steps)) (none_joined (job.rival || told.is_rival job.content joined names) job.content)
+
+map_beside_then : (joined : List Triple) (names : List (List ℕ)) (found : Option told.Job) → option_map (told.beside joined names) (option_map (told.beside [] []) found) ≡ option_map (told.beside joined names) found
+map_beside_then joined names None = refl
+map_beside_then joined names (Some job) = ap Some (beside_then joined names job)
+
+map_then_beside : (joined : List Triple) (names : List (List ℕ)) (found : Option told.Job) → option_map (told.beside [] []) (option_map (told.beside joined names) found) ≡ option_map (told.beside joined names) found
+map_then_beside joined names None = refl
+map_then_beside joined names (Some job) = ap Some (then_beside joined names job)
 
 -- ---- the commit so far, and with one more step
 
@@ -71,7 +80,7 @@ commit_then commit None = commit
 commit_then commit (Some more) = Some more
 
 abbrev job_made : told.Job → Bool → ℕ → told.Job
-job_made job committed steps = record { start = job.start; triples = job.triples; is_committed = committed; steps = steps; met = job.met; rival = job.rival }
+job_made job committed steps = record { start = job.start; content = job.content; is_committed = committed; steps = steps; met = job.met; rival = job.rival }
 
 or_then : (b : Bool) (commit more : Option ℕ) → (commit ≡ None) ⊎ (more ≡ None) → ((b || is_some commit) || is_some more) ≡ (b || is_some (commit_then commit more))
 or_then b commit None one = or_false (b || is_some commit)
@@ -100,19 +109,21 @@ pub stepped_then : (state : State) (client : ℕ) (job : told.Job) (commit more 
     SayTheSame (stepped (stepped state client job commit left count) client (told.grown job commit count) more after 1) (stepped state client job (commit_then commit more) after (count + 1))
 stepped_then state client job commit None left after count one = record {
   triples = sym (append_nil (state.triples ++ joined_by state job commit));
+  queries = refl;
   jobs = λ other. by other (other == client) refl;
   last = refl;
   backlog = backlog_then state.backlog count;
 }
   where
     by : (other : ℕ) (b : Bool) → (other == client) ≡ b →
-        with_job (all_beside (joined_by state job commit) state.jobs) client after other ≡ with_job (all_beside [] (with_job (all_beside (joined_by state job commit) state.jobs) client left)) client after other
-    by other true e = ap (λ b. if b then after else all_beside (joined_by state job commit) state.jobs other) e ∙ sym (ap (λ b. if b then after else all_beside [] (with_job (all_beside (joined_by state job commit) state.jobs) client left) other) e)
-    by other false e = ap (λ b. if b then after else all_beside (joined_by state job commit) state.jobs other) e ∙ sym (map_then_beside (joined_by state job commit) (state.jobs other))
-        ∙ sym (ap (λ b. if b then after else option_map (told.beside []) (if b then left else all_beside (joined_by state job commit) state.jobs other)) e)
+        with_job (all_beside (joined_by state job commit) (names_joined job commit) state.jobs) client after other ≡ with_job (all_beside [] [] (with_job (all_beside (joined_by state job commit) (names_joined job commit) state.jobs) client left)) client after other
+    by other true e = ap (λ b. if b then after else all_beside (joined_by state job commit) (names_joined job commit) state.jobs other) e ∙ sym (ap (λ b. if b then after else all_beside [] [] (with_job (all_beside (joined_by state job commit) (names_joined job commit) state.jobs) client left) other) e)
+    by other false e = ap (λ b. if b then after else all_beside (joined_by state job commit) (names_joined job commit) state.jobs other) e ∙ sym (map_then_beside (joined_by state job commit) (names_joined job commit) (state.jobs other))
+        ∙ sym (ap (λ b. if b then after else option_map (told.beside [] []) (if b then left else all_beside (joined_by state job commit) (names_joined job commit) state.jobs other)) e)
 stepped_then state client job (Some commit) (Some more) left after count one = absurd (elim one [ inl e ↦ cc | inr e ↦ cc ])
 stepped_then state client job None (Some more) left after count one = record {
   triples = ap (λ ts. state.triples ++ joined_of ts) (sym nil) ∙ ap (λ ts. ts ++ joined_of (state.triples ++ [])) (sym nil);
+  queries = refl;
   jobs = λ other. by other (other == client) refl;
   last = refl;
   backlog = backlog_then state.backlog count;
@@ -122,13 +133,13 @@ stepped_then state client job None (Some more) left after count one = record {
     nil = append_nil state.triples
 
     joined_of : List Triple → List Triple
-    joined_of known = filter (λ triple. not (told.is_among known triple)) job.triples
+    joined_of known = filter (λ triple. not (told.is_among known triple)) (told.triples_of job.content)
 
     by : (other : ℕ) (b : Bool) → (other == client) ≡ b →
-        with_job (all_beside (joined_by state job (Some more)) state.jobs) client after other ≡ with_job (all_beside (joined_by (stepped state client job None left count) (told.grown job None count) (Some more)) (with_job (all_beside [] state.jobs) client left)) client after other
-    by other true e = ap (λ b. if b then after else all_beside (joined_by state job (Some more)) state.jobs other) e
-        ∙ sym (ap (λ b. if b then after else all_beside (joined_by (stepped state client job None left count) (told.grown job None count) (Some more)) (with_job (all_beside [] state.jobs) client left) other) e)
-    by other false e = ap (λ b. if b then after else all_beside (joined_by state job (Some more)) state.jobs other) e
-        ∙ sym (map_beside_then (joined_by state job (Some more)) (state.jobs other))
-        ∙ ap (λ ts. option_map (told.beside (filter (λ triple. not (told.is_among ts triple)) job.triples)) (option_map (told.beside []) (state.jobs other))) (sym nil)
-        ∙ sym (ap (λ b. if b then after else option_map (told.beside (joined_by (stepped state client job None left count) (told.grown job None count) (Some more))) (if b then left else all_beside [] state.jobs other)) e)
+        with_job (all_beside (joined_by state job (Some more)) (names_joined job (Some more)) state.jobs) client after other ≡ with_job (all_beside (joined_by (stepped state client job None left count) (told.grown job None count) (Some more)) (names_joined job (Some more)) (with_job (all_beside [] [] state.jobs) client left)) client after other
+    by other true e = ap (λ b. if b then after else all_beside (joined_by state job (Some more)) (names_joined job (Some more)) state.jobs other) e
+        ∙ sym (ap (λ b. if b then after else all_beside (joined_by (stepped state client job None left count) (told.grown job None count) (Some more)) (names_joined job (Some more)) (with_job (all_beside [] [] state.jobs) client left) other) e)
+    by other false e = ap (λ b. if b then after else all_beside (joined_by state job (Some more)) (names_joined job (Some more)) state.jobs other) e
+        ∙ sym (map_beside_then (joined_by state job (Some more)) (names_joined job (Some more)) (state.jobs other))
+        ∙ ap (λ ts. option_map (told.beside (filter (λ triple. not (told.is_among ts triple)) (told.triples_of job.content)) (told.names_of job.content)) (option_map (told.beside [] []) (state.jobs other))) (sym nil)
+        ∙ sym (ap (λ b. if b then after else option_map (told.beside (joined_by (stepped state client job None left count) (told.grown job None count) (Some more)) (names_joined job (Some more))) (if b then left else all_beside [] [] state.jobs other)) e)

@@ -1,4 +1,4 @@
--- How a load may end, by what is known of it.
+-- How a job may end, by what is known of it.
 use Rattle.std.proofs.Common.{◌≡◌, ◌⊎◌, inl, inr, ◌≤◌, ◌<◌, ℕ, zero, suc, Bool, true, false, ◌==◌, nat_le, nat_lt, List, [], ◌∷◌, ◌++◌, length, take, Option, Some, None, refl, ap, sym, subst, ◌∙◌, arith, cond}
 use Rattle.std.proofs.lemmas.Bool.{and_parts, eq-eqb, ltb-true, leb-true}
 use Rattle.std.proofs.lemmas.List.{take_all}
@@ -17,6 +17,7 @@ use Rattle.pcj_table.specs.declared.write.Write.{Write}
 use Rattle.pcj_oracle.specs.declared.block.Block.{Block}
 use Rattle.pcj_mvcc.proofs.Laws.{read_unlocked}
 use Rattle.pcj_mvcc.specs.Acts.{lock_of}
+use Rattle.pcj_mvcc.specs.Reading.{Rows, versions_read}
 use Rattle.pcj_moves.specs.Traces.{Trace, traces}
 use Rattle.pcj_moves.specs.Transactions.{Transaction, Transacts, lock_at, primary_of, write_at}
 use Rattle.pcj_moves.proofs.OtherLemmas.{lock_is}
@@ -28,15 +29,20 @@ use Rattle.pcj_txn.specs.declared.event.TxnEvent.{TxnEvent}
 use Rattle.pcj_txn.specs.declared.event.TxnEvent.TheVariants as txn
 use Rattle.pcj_encode.specs.declared.order.Order.TheVariants.{Spo, Pos, Osp}
 use Rattle.pcj_rowtables.specs.Rows.{triple_key}
-use Rattle.pcj_fit.specs.Plans.{absent_of, load_writes, put_mark, task_key, triple_writes}
+use Rattle.pcj_fit.specs.Plans.{absent_of, load_writes, put_mark, registration_writes, task_key, triple_writes}
 use Rattle.pcj_fit.proofs.PlanLemmas.{as_task, by_order}
-use Rattle.pcj_client.specs.Job.{HasCome, Job}
+use Rattle.pcj_client.specs.Job.{Content, Job}
+use Rattle.pcj_client.specs.Job.Content.{Loads, Registers}
 use Rattle.pcj_client.specs.Events.{IsTold, job_event}
 use Rattle.pcj_client.specs.declared.event.JobEvent.{JobEvent}
+use Rattle.pcj_client.specs.declared.event.JobEvent.TheVariants as does
 use Rattle.pcj_model.specs.Job as told
+use Rattle.pcj_model.specs.Queries.{Registration}
 use Rattle.pcj_jobs.specs.Agrees.{EndsAs, commit_told}
-use Rattle.pcj_jobs.specs.Known.{IsKnown, is_row_of}
+use Rattle.pcj_jobs.specs.Known.{AreUntouched, IsKnown, is_row_of}
 use Rattle.pcj_jobs.proofs.CommitLemmas.{absent_is_its, among, of_mark}
+use Rattle.pcj_jobs.proofs.ContentLemmas.{IsPlanOf, write_there}
+use Rattle.pcj_jobs.proofs.JobLemmas.{IsWriting, is_writing, writes_nothing}
 
 -- ---- what is due
 
@@ -133,25 +139,33 @@ later_version at versions commit found below = none versions below found
     none : (vs : List Version) → are_below at vs ≡ true → newest_from at vs ≡ Some commit → ⊥
     none vs all found = let clash : None ≡ Some commit = ap (λ (xs : List Version). option_map (λ (v : Version). v.commit) (newest xs)) (sym (empty vs all)) ∙ found in cc
 
--- what is known of a load that met a conflict
-conflict_has_rival : (table : Table) (job : Job) (known : told.Job) (progress : TxnProgress) (key : Key) (commit : ℕ) → IsKnown (row_at table) job known → HasCome (Some progress) job → Conflicts progress table key commit → job.actor.transaction.committed ≡ false → known.rival ≡ true
+-- a row that a job writes
+write_untouched : (rows : Rows) (start : ℕ) (answers : List Answer) (writes : List Write) (content : Content) (place : ℕ) (write : Write) → IsPlanOf content start answers writes → slice_get writes place ≡ Some write → AreUntouched rows start content →
+    are_below start (versions_read rows write.key) ≡ true
+write_untouched rows start answers writes (Loads triples) place write plan at untouched =
+    let found = written_of (absent_of triples answers) place write (ap (λ ws. slice_get ws place) (sym plan.writes_are) ∙ at) in untouched found.0 (absent_contained triples answers found.0 found.1) write.key found.2
+write_untouched rows start answers writes (Registers name tree) place write plan at untouched =
+    untouched write.key (write_there (registration_writes start name tree) place write (ap (λ ws. slice_get ws place) (sym plan.writes_are) ∙ at))
+
+-- what is known of a job that met a conflict
+conflict_has_rival : (table : Table) (job : Job) (known : told.Job) (progress : TxnProgress) (key : Key) (commit : ℕ) → IsKnown (row_at table) job known → IsWriting job progress → Conflicts progress table key commit → job.actor.transaction.committed ≡ false → known.rival ≡ true
 conflict_has_rival table job known progress key commit is come conflicts undone = by known.rival refl
   where
     due_now : (slice_get progress.transaction.writes progress.transaction.prewritten ≡ Some conflicts.write) × (progress.transaction.commit ≡ None)
     due_now = prewrite_due progress.transaction.writes progress.transaction.prewritten progress.transaction.commit progress.transaction.committed progress.settled conflicts.write conflicts.due
 
-    found : (triple : Triple) × Contains (absent_of job.triples job.actor.answers) triple × (is_row_of triple conflicts.write.key ≡ true)
-    found = written_of (absent_of job.triples job.actor.answers) progress.transaction.prewritten conflicts.write
-        (ap (λ ws. slice_get ws progress.transaction.prewritten) (sym (ap (λ (t : Transaction). t.writes) (sym come.0) ∙ come.2.writes_are)) ∙ due_now.0)
+    at : slice_get job.actor.transaction.writes progress.transaction.prewritten ≡ Some conflicts.write
+    at = ap (λ (t : Transaction). slice_get t.writes progress.transaction.prewritten) come.transaction ∙ due_now.0
 
     by : (b : Bool) → known.rival ≡ b → known.rival ≡ true
     by true e = e
     by false e = absurd (later_version progress.start (row_at table key).versions commit conflicts.later
-        (ap (λ s. are_below s (row_at table key).versions) come.1 ∙ ap (are_below job.actor.start) (sym (read_unlocked (row_at table) key conflicts.unlocked))
-        ∙ is.untouched undone e found.0 (absent_contained job.triples job.actor.answers found.0 found.1) key (ap (is_row_of found.0) conflicts.of ∙ found.2)))
+        (ap (λ s. are_below s (row_at table key).versions) come.start ∙ ap (are_below job.actor.start) (sym (read_unlocked (row_at table) key conflicts.unlocked))
+        ∙ ap (λ k. are_below job.actor.start (versions_read (row_at table) k)) conflicts.of
+        ∙ write_untouched (row_at table) job.actor.start job.actor.answers job.actor.transaction.writes job.content progress.transaction.prewritten conflicts.write come.plan at (is.untouched undone e)))
 
 -- and of one whose primary was lost
-lost_was_met : (table : Table) (job : Job) (known : told.Job) (progress : TxnProgress) (row : Row) → IsKnown (row_at table) job known → HasCome (Some progress) job → LosesPrimary progress table row → job.actor.transaction.committed ≡ false →
+lost_was_met : (table : Table) (job : Job) (known : told.Job) (progress : TxnProgress) (row : Row) → IsKnown (row_at table) job known → IsWriting job progress → LosesPrimary progress table row → job.actor.transaction.committed ≡ false →
     Transacts job.actor.start job.actor.transaction (traces job.actor.start (row_at table)) → known.met ≡ true
 lost_was_met table job known progress row is come loses undone transacts = by known.met refl
   where
@@ -159,10 +173,10 @@ lost_was_met table job known progress row is come loses undone transacts = by kn
     due_now = primary_due progress.transaction.writes progress.transaction.prewritten progress.transaction.commit progress.transaction.committed progress.settled loses.write loses.commit loses.due
 
     first : (rest : List Write) × (job.actor.transaction.writes ≡ loses.write ∷ rest)
-    first = first_of job.actor.transaction.writes loses.write (ap (λ (t : Transaction). slice_get t.writes 0) come.0 ∙ due_now.0)
+    first = first_of job.actor.transaction.writes loses.write (ap (λ (t : Transaction). slice_get t.writes 0) come.transaction ∙ due_now.0)
 
     taken : take job.actor.transaction.prewritten job.actor.transaction.writes ≡ loses.write ∷ first.0
-    taken = ap (λ n. take n job.actor.transaction.writes) (transacts.all loses.commit (ap (λ (t : Transaction). t.commit) come.0 ∙ due_now.1)) ∙ take_all (length job.actor.transaction.writes) job.actor.transaction.writes (omega arith) ∙ first.1
+    taken = ap (λ n. take n job.actor.transaction.writes) (transacts.all loses.commit (ap (λ (t : Transaction). t.commit) come.transaction ∙ due_now.1)) ∙ take_all (length job.actor.transaction.writes) job.actor.transaction.writes (omega arith) ∙ first.1
 
     lock : Lock
     lock = lock_of loses.write job.actor.start (primary_of job.actor.transaction)
@@ -179,21 +193,21 @@ lost_was_met table job known progress row is come loses undone transacts = by kn
     by false e = absurd (
         let held = lock_is (row_at table loses.write.key).lock job.actor.start (lock_of loses.write job.actor.start (primary_of job.actor.transaction)) (ap (λ (t : Trace). t.lock) (is.held undone e loses.write.key) ∙ written) in
         let locked : is_locked_at job.actor.start (row_at table loses.write.key).lock ≡ true = is_there (row_at table loses.write.key).lock (lock_of loses.write job.actor.start (primary_of job.actor.transaction)) held.0 refl in
-        let clash : true ≡ false = sym locked ∙ ap (λ s. is_locked_at s (row_at table loses.write.key).lock) (sym come.1) ∙ ap (λ (r : Row). is_locked_at progress.start r.lock) (sym loses.is) ∙ loses.unlocked in cc
+        let clash : true ≡ false = sym locked ∙ ap (λ s. is_locked_at s (row_at table loses.write.key).lock) (sym come.start) ∙ ap (λ (r : Row). is_locked_at progress.start r.lock) (sym loses.is) ∙ loses.unlocked in cc
         )
 
 -- ---- how it ends
 
-pub record EndsSo (known : told.Job) (event : JobEvent) : Type 0 where
+pub record EndsSo (queries : List Registration) (known : told.Job) (event : JobEvent) : Type 0 where
   pub end : told.StepsEnd
   pub ends_as : EndsAs event end
-  pub ends : told.MayEnd known (commit_told event) end
+  pub ends : told.MayEnd queries known (commit_told event) end
 
-ends_with : (table : Table) (job : Job) (known : told.Job) (progress : TxnProgress) (oracle : Option Block) (done : TxnEvent) (after : TxnProgress) (oracle' : Option Block) (table' : Table) → IsKnown (row_at table) job known → HasCome (Some progress) job →
-    Transacts job.actor.start job.actor.transaction (traces job.actor.start (row_at table)) → TxnSteps progress oracle table done after oracle' table' → EndsSo known (job_event done)
-ends_with table job known progress oracle txn.Prewrote after oracle' table' is come transacts steps = record { end = told.StepsEnd.AllMade; ends_as = refl; ends = tt }
-ends_with table job known progress oracle (txn.MetLock key lock) after oracle' table' is come transacts steps = record { end = told.StepsEnd.AllMade; ends_as = refl; ends = tt }
-ends_with table job known progress oracle (txn.Conflict key commit) after oracle' table' is come transacts steps = record {
+ends_with : (queries : List Registration) (table : Table) (job : Job) (known : told.Job) (progress : TxnProgress) (oracle : Option Block) (done : TxnEvent) (after : TxnProgress) (oracle' : Option Block) (table' : Table) → IsKnown (row_at table) job known → IsWriting job progress →
+    Transacts job.actor.start job.actor.transaction (traces job.actor.start (row_at table)) → TxnSteps progress oracle table done after oracle' table' → EndsSo queries known (job_event done)
+ends_with queries table job known progress oracle txn.Prewrote after oracle' table' is come transacts steps = record { end = told.StepsEnd.AllMade; ends_as = refl; ends = tt }
+ends_with queries table job known progress oracle (txn.MetLock key lock) after oracle' table' is come transacts steps = record { end = told.StepsEnd.AllMade; ends_as = refl; ends = tt }
+ends_with queries table job known progress oracle (txn.Conflict key commit) after oracle' table' is come transacts steps = record {
   end = told.StepsEnd.IsAborted;
   ends_as = refl;
   ends = (is.is_committed ∙ undone, refl, inr (conflict_has_rival table job known progress key commit is come steps.0 undone));
@@ -201,27 +215,32 @@ ends_with table job known progress oracle (txn.Conflict key commit) after oracle
   where
     undone : job.actor.transaction.committed ≡ false
     undone = undrawn_is_undone job.actor.start job.actor.transaction (traces job.actor.start (row_at table)) transacts
-        (ap (λ (t : Transaction). t.commit) come.0 ∙ (prewrite_due progress.transaction.writes progress.transaction.prewritten progress.transaction.commit progress.transaction.committed progress.settled (steps.0).write (steps.0).due).1)
-ends_with table job known progress oracle (txn.DrewCommit commit) after oracle' table' is come transacts steps = record { end = told.StepsEnd.AllMade; ends_as = refl; ends = tt }
-ends_with table job known progress oracle (txn.Committed commit) after oracle' table' is come transacts steps = record { end = told.StepsEnd.AllMade; ends_as = refl; ends = tt }
-ends_with table job known progress oracle (txn.PrimaryLost row) after oracle' table' is come transacts steps = record {
+        (ap (λ (t : Transaction). t.commit) come.transaction ∙ (prewrite_due progress.transaction.writes progress.transaction.prewritten progress.transaction.commit progress.transaction.committed progress.settled (steps.0).write (steps.0).due).1)
+ends_with queries table job known progress oracle (txn.DrewCommit commit) after oracle' table' is come transacts steps = record { end = told.StepsEnd.AllMade; ends_as = refl; ends = tt }
+ends_with queries table job known progress oracle (txn.Committed commit) after oracle' table' is come transacts steps = record { end = told.StepsEnd.AllMade; ends_as = refl; ends = tt }
+ends_with queries table job known progress oracle (txn.PrimaryLost row) after oracle' table' is come transacts steps = record {
   end = told.StepsEnd.IsAborted;
   ends_as = refl;
   ends = (is.is_committed ∙ undone, refl, inl (lost_was_met table job known progress row is come steps.0 undone transacts));
 }
   where
     undone : job.actor.transaction.committed ≡ false
-    undone = ap (λ (t : Transaction). t.committed) come.0
+    undone = ap (λ (t : Transaction). t.committed) come.transaction
         ∙ (primary_due progress.transaction.writes progress.transaction.prewritten progress.transaction.commit progress.transaction.committed progress.settled (steps.0).write (steps.0).commit (steps.0).due).2
-ends_with table job known progress oracle txn.SecondaryDone after oracle' table' is come transacts steps = record { end = told.StepsEnd.AllMade; ends_as = refl; ends = tt }
-ends_with table job known progress oracle txn.Done after oracle' table' is come transacts steps = record {
+ends_with queries table job known progress oracle txn.SecondaryDone after oracle' table' is come transacts steps = record { end = told.StepsEnd.AllMade; ends_as = refl; ends = tt }
+ends_with queries table job known progress oracle txn.Done after oracle' table' is come transacts steps = record {
   end = told.StepsEnd.IsDone;
   ends_as = refl;
-  ends = inl (is.is_committed ∙ ap (λ (t : Transaction). t.committed) come.0 ∙ end_due progress.transaction.writes progress.transaction.prewritten progress.transaction.commit progress.transaction.committed progress.settled steps.0);
+  ends = inl (is.is_committed ∙ ap (λ (t : Transaction). t.committed) come.transaction ∙ end_due progress.transaction.writes progress.transaction.prewritten progress.transaction.commit progress.transaction.committed progress.settled steps.0);
 }
 
-pub ends_so : (oracle : Option Block) (table : Table) (job : Job) (known : told.Job) (event : JobEvent) (after : Job) (oracle' : Option Block) (table' : Table) → IsKnown (row_at table) job known → Transacts job.actor.start job.actor.transaction (traces job.actor.start (row_at table)) →
-    IsTold job oracle table event after oracle' table' → EndsSo known event
-ends_so oracle table job known event after oracle' table' is transacts (inl worked) = subst (EndsSo known) (sym worked.0) (record { end = told.StepsEnd.AllMade; ends_as = refl; ends = tt })
-ends_so oracle table job known event after oracle' table' is transacts (inr steps) = let (none, before, writing, done, next, made, says) = steps in
-    subst (EndsSo known) (sym says) (ends_with table job known before oracle done next oracle' table' is (subst (λ w. HasCome w job) writing is.load.come) transacts made)
+pub ends_so : (queries : List Registration) (oracle : Option Block) (table : Table) (job : Job) (known : told.Job) (event : JobEvent) (after : Job) (oracle' : Option Block) (table' : Table) → IsKnown (row_at table) job known →
+    Transacts job.actor.start job.actor.transaction (traces job.actor.start (row_at table)) → (event ≡ does.Taken → told.is_name_held queries known.content ≡ true) → IsTold job oracle table event after oracle' table' → EndsSo queries known event
+ends_so queries oracle table job known event after oracle' table' is transacts held (inl worked) = subst (EndsSo queries known) (sym worked.0) (record { end = told.StepsEnd.AllMade; ends_as = refl; ends = tt })
+ends_so queries oracle table job known event after oracle' table' is transacts held (inr (inl steps)) = let (none, before, writing, done, next, made, says) = steps in
+    subst (EndsSo queries known) (sym says) (ends_with queries table job known before oracle done next oracle' table' is (is_writing job before is.is writing) transacts made)
+ends_so queries oracle table job known event after oracle' table' is transacts held (inr (inr taken)) = subst (EndsSo queries known) (sym taken.0) (record {
+  end = told.StepsEnd.IsTaken;
+  ends_as = refl;
+  ends = (is.is_committed ∙ ap (λ (t : Transaction). t.committed) (writes_nothing job is.is taken.2), refl, held taken.0);
+})

@@ -18,7 +18,7 @@ use Rattle.pcj_actor.specs.StepLaws.{state_of}
 use Rattle.pcj_fit.specs.Sound.{Sound}
 use Rattle.pcj_fit.specs.Triples.{HasTriples}
 use Rattle.pcj_pending.specs.Pending.{IsQuiet, locks_of, notifications_of}
-use Rattle.pcj_client.specs.Job.{HasCome, Job}
+use Rattle.pcj_client.specs.Job.{Job}
 use Rattle.pcj_client.specs.Events.{IsDrawing}
 use Rattle.pcj_client.specs.declared.event.JobEvent.{JobEvent}
 use Rattle.pcj_client.specs.declared.event.JobEvent.TheVariants as does
@@ -29,15 +29,18 @@ use Rattle.pcj_clients.specs.declared.busy.Busy.{Busy}
 use Rattle.pcj_clients.specs.declared.stepped.Stepped.{Stepped}
 use Rattle.pcj_clients.specs.declared.stepped.StepsEnd.TheVariants as all
 use Rattle.pcj_model.specs.Job as told
+use Rattle.pcj_model.specs.Queries.{Registration}
 use Rattle.pcj_model.specs.State.{State, stepped}
-use Rattle.pcj_jobs.specs.Agrees.{Agrees, EndsAs, commit_told, known_after}
+use Rattle.pcj_jobs.specs.Agrees.{Agrees, EndsAs, HasRegistered, commit_told, known_after}
 use Rattle.pcj_jobs.specs.Known.{AreKnown}
 use Rattle.pcj_jobs.specs.Laws.{IsEndOf, ShortAgrees, ShortKnown, SpentAgrees, SpentKnown, StepsAgree, StepsAnswer, StepsKnown}
 use Rattle.pcj_jobs.proofs.AgreeLemmas.{HasKnown, its_known}
+use Rattle.pcj_jobs.proofs.BesideLemmas.{or_parts}
 use Rattle.pcj_jobs.proofs.ClientLemmas.{its_actor}
 use Rattle.pcj_jobs.proofs.ComposeLemmas.{agrees_as, commit_then, grown_then}
+use Rattle.pcj_jobs.proofs.JobLemmas.{IsWriting, is_writing}
 use Rattle.pcj_jobs.proofs.LawLemmas.{fault_agrees, step_agrees}
-use Rattle.pcj_jobs.proofs.ReachLemmas.{AtLast, Reach, at_last, but_last, commits_then, made_by, once, reach_first, reached}
+use Rattle.pcj_jobs.proofs.ReachLemmas.{AtLast, Reach, at_last, but_last, commits_then, made_by, none_of, once, reach_first, reached}
 
 -- ---- all but the last go on
 
@@ -66,7 +69,7 @@ is_going false events go all = let (front, last, is, all_on, ends) = go in absur
 -- ---- an answer
 
 answer_of : (client most : ℕ) (new : List Busy) (oracle' : Option Block) (table' : Table) (state : State) (came : Stepped) (known : told.Job) (commit : Option ℕ) (count : ℕ) (end : told.StepsEnd) (after : Option told.Job) → state.jobs client ≡ Some known →
-    came.commit ≡ commit → came.count ≡ count → IsEndOf came.end end → told.MayCommit known commit → told.MayEnd known commit end → 1 ≤ count → told.IsCount most count end → after ≡ told.job_after known commit end count →
+    came.commit ≡ commit → came.count ≡ count → IsEndOf came.end end → told.MayCommit state.queries known commit → told.MayEnd state.queries known commit end → 1 ≤ count → told.IsCount most count end → after ≡ told.job_after known commit end count →
     Agrees oracle' table' new (stepped state client known commit after count) → StepsAnswer client most new oracle' table' state came
 answer_of client most new oracle' table' state came known commit count end after has commit_is count_is ends_as commits ends some counted left agrees = record {
   known = known;
@@ -77,8 +80,8 @@ answer_of client most new oracle' table' state came known commit count end after
   reply = record {
     count = came.count;
     end = end;
-    commits = subst (told.MayCommit known) (sym commit_is) commits;
-    ends = subst (λ c. told.MayEnd known c end) (sym commit_is) ends;
+    commits = subst (told.MayCommit state.queries known) (sym commit_is) commits;
+    ends = subst (λ c. told.MayEnd state.queries known c end) (sym commit_is) ends;
     tried = omega (arith, some, count_is);
     counted = subst (λ n. told.IsCount most n end) (sym count_is) counted;
     told = refl;
@@ -109,7 +112,7 @@ end_is_of came does.Worked end made ends = subst (λ e. IsEndOf e end) (sym made
 end_is_of came (does.Committed c) end made ends = subst (λ e. IsEndOf e end) (sym made) ends
 end_is_of came does.Done end made ends = ends
 end_is_of came does.Aborted end made ends = ends
-end_is_of came does.Taken end made ends = absurd ends
+end_is_of came does.Taken end made ends = ends
 
 left_is : (known : told.Job) (commit : Option ℕ) (made : ℕ) (event : JobEvent) (end : told.StepsEnd) → (commit ≡ None) ⊎ (commit_told event ≡ None) → EndsAs event end →
     known_after (told.grown known commit made) event ≡ told.job_after known (commit_then commit (commit_told event)) end (made + 1)
@@ -117,38 +120,33 @@ left_is known commit made does.Worked end one ends = subst (λ e. Some (told.gro
 left_is known commit made (does.Committed c) end one ends = subst (λ e. Some (told.grown (told.grown known commit made) (Some c) 1) ≡ told.job_after known (Some c) e (made + 1)) (sym ends) (ap Some (grown_then known commit (Some c) made one))
 left_is known commit made does.Done end one ends = subst (λ e. None ≡ told.job_after known commit e (made + 1)) (sym ends) refl
 left_is known commit made does.Aborted end one ends = subst (λ e. None ≡ told.job_after known commit e (made + 1)) (sym ends) refl
-left_is known commit made does.Taken end one ends = absurd ends
+left_is known commit made does.Taken end one ends = subst (λ e. None ≡ told.job_after known commit e (made + 1)) (sym ends) refl
 
 counted_as : (most count : ℕ) (event : JobEvent) (end : told.StepsEnd) → EndsAs event end → (is_end event ≡ false → count ≡ most) → count ≤ most → told.IsCount most count end
 counted_as most count does.Worked end ends goes within = subst (told.IsCount most count) (sym ends) (goes refl)
 counted_as most count (does.Committed c) end ends goes within = subst (told.IsCount most count) (sym ends) (goes refl)
 counted_as most count does.Done end ends goes within = subst (told.IsCount most count) (sym ends) within
 counted_as most count does.Aborted end ends goes within = subst (told.IsCount most count) (sym ends) within
-counted_as most count does.Taken end ends goes within = absurd ends
-
-or_parts : (a b : Bool) → (a || b) ≡ false → (a ≡ false) × (b ≡ false)
-or_parts true b e = absurd cc
-or_parts false b e = (refl, e)
-
-none_of : (commit : Option ℕ) → is_some commit ≡ false → commit ≡ None
-none_of None e = refl
-none_of (Some c) e = absurd cc
+counted_as most count does.Taken end ends goes within = subst (told.IsCount most count) (sym ends) within
 
 some_then : (commit more : Option ℕ) → (is_some commit ≡ true) ⊎ (is_some more ≡ true) → is_some (commit_then commit more) ≡ true
 some_then commit None (inl some) = some
 some_then commit None (inr some) = absurd cc
 some_then commit (Some more) either = refl
 
-ends_then : (known : told.Job) (commit more : Option ℕ) (made : ℕ) (end : told.StepsEnd) → told.MayEnd (told.grown known commit made) more end → told.MayEnd known (commit_then commit more) end
-ends_then known commit more made told.StepsEnd.AllMade ends = tt
-ends_then known commit more made told.StepsEnd.IsDone ends = by ends
+ends_then : (queries now : List Registration) (known : told.Job) (commit more : Option ℕ) (made : ℕ) (end : told.StepsEnd) → (commit ≡ None → now ≡ queries) → told.MayEnd now (told.grown known commit made) more end → told.MayEnd queries known (commit_then commit more) end
+ends_then queries now known commit more made told.StepsEnd.AllMade same ends = tt
+ends_then queries now known commit more made told.StepsEnd.IsDone same ends = by ends
   where
     by : ((known.is_committed || is_some commit) ≡ true) ⊎ (is_some more ≡ true) → (known.is_committed ≡ true) ⊎ (is_some (commit_then commit more) ≡ true)
     by (inl some) = elim (or_cases known.is_committed (is_some commit) some) [ inl first ↦ inl first | inr second ↦ inr (some_then commit more (inl second)) ]
     by (inr some) = inr (some_then commit more (inr some))
-ends_then known commit more made told.StepsEnd.IsAborted ends =
+ends_then queries now known commit more made told.StepsEnd.IsAborted same ends =
     let parts = or_parts known.is_committed (is_some commit) ends.0 in (parts.0, ap (λ m. commit_then commit m) ends.1 ∙ none_of commit parts.1, ends.2)
-ends_then known commit more made told.StepsEnd.Fails ends = tt
+ends_then queries now known commit more made told.StepsEnd.IsTaken same ends =
+    let parts = or_parts known.is_committed (is_some commit) ends.0 in
+    let none = none_of commit parts.1 in (parts.0, ap (λ m. commit_then commit m) ends.1 ∙ none, ap (λ qs. told.is_name_held qs known.content) (sym (same none)) ∙ ends.2)
+ends_then queries now known commit more made told.StepsEnd.Fails same ends = tt
 
 -- ---- a step that fails
 
@@ -177,7 +175,8 @@ finish client most new oracle' table' state known others events has at within wh
     by (Ok (Some event)) step had going unspent =
         answer_of client most new oracle' table' state (with_told at.came (Ok (Some event))) known (commit_then at.commit (commit_told event)) (at.made + 1) (found.1).end (known_after (told.grown known at.commit at.made) event) has
         (commit_is_then at.came at.commit event at.commit_is) (count_is_then at.came event ∙ ap suc at.count_is ∙ (let e : suc at.made ≡ at.made + 1 = omega arith in e)) (end_is_of at.came event (found.1).end at.end_is (found.1).ends_as)
-        (commits_then known at.commit (commit_told event) at.made (at.reach).commits may) (ends_then known at.commit (commit_told event) at.made (found.1).end (subst (λ k. told.MayEnd k (commit_told event) (found.1).end) same (found.1).ends)) (omega arith)
+        (commits_then state.queries (at.reach).now.queries known at.commit (commit_told event) at.made (at.reach).same (at.reach).commits may)
+        (ends_then state.queries (at.reach).now.queries known at.commit (commit_told event) at.made (found.1).end (at.reach).same (subst (λ k. told.MayEnd (at.reach).now.queries k (commit_told event) (found.1).end) same (found.1).ends)) (omega arith)
         (counted_as most (at.made + 1) event (found.1).end (found.1).ends_as (λ on. sym len ∙ whole (going (ap not on))) (omega (arith, within, len)))
         (left_is known at.commit at.made event (found.1).end one (found.1).ends_as)
         (agrees_as oracle' table' new _ _ ((at.reach).goes (commit_told event) (known_after (told.grown known at.commit at.made) event) one)
@@ -195,11 +194,11 @@ finish client most new oracle' table' state known others events has at within wh
         same : found.0 ≡ told.grown known at.commit at.made
         same = reached state client known others at.clients at.oracle at.table at.commit at.made at.reach found.0 (found.1).has
 
-        may : told.MayCommit (told.grown known at.commit at.made) (commit_told event)
-        may = subst (λ k. told.MayCommit k (commit_told event)) same (found.1).commits
+        may : told.MayCommit (at.reach).now.queries (told.grown known at.commit at.made) (commit_told event)
+        may = subst (λ k. told.MayCommit (at.reach).now.queries k (commit_told event)) same (found.1).commits
 
         one : (at.commit ≡ None) ⊎ (commit_told event ≡ None)
-        one = once known at.commit (commit_told event) at.made may
+        one = once (at.reach).now.queries known at.commit (commit_told event) at.made may
     by (Err txn_error.Failed) step had going unspent =
         answer_of client most new oracle' table' state (with_told at.came (Err txn_error.Failed)) known at.commit (at.made + 1) told.StepsEnd.Fails (Some (told.grown known at.commit at.made)) has
         at.commit_is (ap suc at.count_is ∙ (let e : suc at.made ≡ at.made + 1 = omega arith in e)) refl (at.reach).commits tt (omega arith) (omega (arith, within, len))
@@ -247,15 +246,15 @@ draw_due writes prewritten (Some commit) true settled e = absurd (never (slice_g
     never None due = cc
     never (Some w) due = cc
 
--- a load that is to draw its commit isn't committed
+-- a job that is to draw its commit isn't committed
 drawing_undone : (state : State) (client : ℕ) (known : told.Job) (others : List Actor) (clients : List Busy) (oracle : Option Block) (table : Table) (commit : Option ℕ) (made : ℕ) (reach : Reach state client known others clients oracle table commit made) → IsDrawing reach.job → (known.is_committed ≡ false) × (commit ≡ None)
 drawing_undone state client known others clients oracle table commit made reach drawing = (parts.0, none_of commit parts.1)
   where
     found : HasKnown (row_at table) reach.job (reach.now.jobs client)
     found = its_known (row_at table) clients reach.now.jobs client reach.job reach.agrees.known reach.some
 
-    come : HasCome (Some drawing.0) reach.job
-    come = subst (λ w. HasCome w reach.job) drawing.1 found.is.load.come
+    come : IsWriting reach.job drawing.0
+    come = is_writing reach.job drawing.0 found.is.is drawing.1
 
     sound : IsSound (row_at table) reach.job.actor
     sound = each_contains (IsSound (row_at table)) (actors_of clients ++ others) reach.job.actor (each_sound (row_at table) (actors_of clients ++ others) reach.sound.consistent.sound)
@@ -263,7 +262,7 @@ drawing_undone state client known others clients oracle table commit made reach 
 
     undone : reach.job.actor.transaction.committed ≡ false
     undone = undrawn_is_undone reach.job.actor.start reach.job.actor.transaction (traces reach.job.actor.start (row_at table)) sound.transacts
-        (ap (λ (t : Transaction). t.commit) come.0 ∙ draw_due drawing.0.transaction.writes drawing.0.transaction.prewritten drawing.0.transaction.commit drawing.0.transaction.committed drawing.0.settled drawing.2)
+        (ap (λ (t : Transaction). t.commit) come.transaction ∙ draw_due drawing.0.transaction.writes drawing.0.transaction.prewritten drawing.0.transaction.commit drawing.0.transaction.committed drawing.0.settled drawing.2)
 
     parts : (known.is_committed ≡ false) × (is_some commit ≡ false)
     parts = or_parts known.is_committed (is_some commit) (ap (λ (k : told.Job). k.is_committed) (sym (reached state client known others clients oracle table commit made reach found.known found.has)) ∙ found.is.is_committed ∙ undone)
@@ -295,6 +294,7 @@ spent_last client new oracle' table' state known others events has at spent = su
           (subst (λ c. Agrees oracle' table' new (stepped state client known c (Some (told.grown known c at.made)) (at.made + 1))) facts.1
           (failed_agrees state client known others at.clients at.oracle at.table at.commit at.made at.reach new oracle' table' step.0 step.1));
       triples = subst (λ t. HasTriples (row_at t) state.triples) (sym (step.1).same) ((at.reach).triples facts.1);
+      queries = subst (λ t. HasRegistered (row_at t) state.queries) (sym (step.1).same) ((at.reach).queries facts.1);
     }
       where
         facts : (known.is_committed ≡ false) × (at.commit ≡ None)
@@ -316,6 +316,7 @@ agrees_kept : (oracle : Option Block) (table : Table) (clients : List Busy) (ora
 agrees_kept oracle table clients oracle' table' new state same kept agrees = record {
   known = subst (λ (cs : List Busy). AreKnown (row_at table') cs state.jobs) (sym same) (subst (λ t. AreKnown (row_at t) clients state.jobs) (sym kept.same) agrees.known);
   triples = subst (λ t. HasTriples (row_at t) state.triples) (sym kept.same) agrees.triples;
+  queries = subst (λ t. HasRegistered (row_at t) state.queries) (sym kept.same) agrees.queries;
   last = let less = agrees.last in let next = kept.next in omega (arith, less, next);
   locks = subst (λ t. locks_of t ≤ state.backlog.most_locks) (sym kept.same) agrees.locks;
   notifications = subst (λ t. notifications_of t ≤ state.backlog.most_locks + state.backlog.old_notifications) (sym kept.same) agrees.notifications;
@@ -333,8 +334,8 @@ short_last client most new oracle' table' state known others events has at withi
     by (Err txn_error.Spent) step had = absurd cc
     by (Err txn_error.Memory) step had = record { known = known; has = has; commit = at.commit; count = at.made; commits = (at.reach).commits; left = left at.commit refl }
       where
-        left : (commit : Option ℕ) → at.commit ≡ commit → HasTriples (row_at table') state.triples ⊎ ((1 ≤ at.made) × (at.made ≤ most) × Agrees oracle' table' new (stepped state client known at.commit (Some (told.grown known at.commit at.made)) at.made))
-        left None e = inl (subst (λ t. HasTriples (row_at t) state.triples) (sym (step.1).same) ((at.reach).triples e))
+        left : (commit : Option ℕ) → at.commit ≡ commit → (HasTriples (row_at table') state.triples × HasRegistered (row_at table') state.queries) ⊎ ((1 ≤ at.made) × (at.made ≤ most) × Agrees oracle' table' new (stepped state client known at.commit (Some (told.grown known at.commit at.made)) at.made))
+        left None e = inl (subst (λ t. HasTriples (row_at t) state.triples) (sym (step.1).same) ((at.reach).triples e), subst (λ t. HasRegistered (row_at t) state.queries) (sym (step.1).same) ((at.reach).queries e))
         left (Some commit) e = elim (at.reach).is [
           | inl none ↦ absurd (let clash : Some commit ≡ None = sym e ∙ none in cc)
           | inr made ↦ inr (

@@ -1,5 +1,5 @@
--- What is known stays true where loads begin and end, and where plain values alone are written.
-use Rattle.std.proofs.Common.{◌≡◌, ℕ, Bool, true, false, ◌==◌, nat_lt, [], ◌∷◌, ◌++◌, length, Option, Some, None, refl, ap, ap₂, sym, subst, ◌∙◌, arith, if◌then◌else◌}
+-- What is known stays true where jobs begin and end, and where plain values alone are written.
+use Rattle.std.proofs.Common.{◌≡◌, ◌≤◌, ℕ, Bool, true, false, ◌==◌, nat_lt, [], ◌∷◌, ◌++◌, length, Option, Some, None, refl, ap, ap₂, sym, subst, ◌∙◌, arith, if◌then◌else◌}
 use Rattle.std.proofs.lemmas.Bool.{eqb-true}
 use Rattle.std.specs.List.{find}
 use Rattle.pcj_table.specs.Row.{are_below}
@@ -14,12 +14,13 @@ use Rattle.pcj_moves.specs.Traces.{lock_from, traces}
 use Rattle.pcj_moves.specs.Transactions.{IsHeld, Transaction, lock_at, new_transaction}
 use Rattle.pcj_moves.proofs.MoveLemmas.{nothing_of}
 use Rattle.pcj_moves.proofs.TraceLemmas.{both, traces_alike}
-use Rattle.pcj_client.specs.Job.{Job}
+use Rattle.pcj_client.specs.Job.{Content, Job}
+use Rattle.pcj_client.specs.Job.Content.{Loads, Registers}
 use Rattle.pcj_clients.specs.Clients.{job_of, without_job}
 use Rattle.pcj_clients.proofs.JobLemmas.{apart_more, apart_without}
 use Rattle.pcj_model.specs.Job as told
 use Rattle.pcj_model.specs.State.{with_job}
-use Rattle.pcj_jobs.specs.Known.{IsKnown, IsKnownOf}
+use Rattle.pcj_jobs.specs.Known.{AreUntouched, IsKnown, IsKnownOf}
 use Rattle.pcj_jobs.specs.Laws.{AllEndKnown, EndsKnown, OpensKnown, PlainStaysKnown, SameButPlain}
 use Rattle.pcj_jobs.proofs.ClientLemmas.{more_other, more_own, without_other, without_own}
 
@@ -30,16 +31,20 @@ known_as rows job job' known known' same same' is = subst (λ k. IsKnownOf rows 
 
 -- ---- rows that are read as before
 
+pub untouched_alike : (before after : Rows) (time : ℕ) (content : Content) → SameReading before after → AreUntouched before time content → AreUntouched after time content
+untouched_alike before after time (Loads triples) same untouched = λ triple its key row. ap (are_below time) (same key) ∙ untouched triple its key row
+untouched_alike before after time (Registers name tree) same untouched = λ key row. ap (are_below time) (same key) ∙ untouched key row
+
 pub known_stays : (before after : Rows) (job : Job) (known : told.Job) → SameReading before after → traces job.actor.start after ≡ traces job.actor.start before → IsKnown before job known → IsKnown after job known
 known_stays before after job known same has is = record {
   start = is.start;
-  triples = is.triples;
+  content = is.content;
   is_committed = is.is_committed;
-  load = is.load;
+  is = is.is;
   answers = is.answers;
   prewritten = is.prewritten;
   held = λ undone met. subst (IsHeld (lock_at job.actor.start job.actor.transaction)) (sym has) (is.held undone met);
-  untouched = λ undone rival triple its key row. ap (are_below job.actor.start) (same key) ∙ is.untouched undone rival triple its key row;
+  untouched = λ undone rival. untouched_alike before after job.actor.start job.content same (is.untouched undone rival);
 }
 
 pub read_alike : (before after : Rows) → SameButPlain before after → SameReading before after
@@ -63,7 +68,7 @@ plain_stays_known before after clients jobs same are = record { apart = are.apar
     by (Some job) None is = absurd is
     by (Some job) (Some known) is = known_stays before after job known (read_alike before after same) (has_alike before after job.actor.start same) is
 
--- ---- a load that begins
+-- ---- a job that begins
 
 -- all versions that are read are below the next number
 pub read_below : (number : ℕ) (rows : Rows) (key : Key) → AreBelow number rows → are_below number (versions_read rows key) ≡ true
@@ -79,8 +84,12 @@ read_below number rows key below = by (rows key).lock
     by None = below.versions key
     by (Some lock) = with_commit lock (committed rows lock.primary lock.start) refl
 
+untouched_yet : (number time : ℕ) (rows : Rows) (content : Content) → number ≤ time → AreBelow number rows → AreUntouched rows time content
+untouched_yet number time rows (Loads triples) later below = λ triple its key row. below_more number time (versions_read rows key) later (read_below number rows key below)
+untouched_yet number time rows (Registers name tree) later below = λ key row. below_more number time (versions_read rows key) later (read_below number rows key below)
+
 pub opens_known : OpensKnown
-opens_known number rows others clients jobs client job sound later load new free are = record {
+opens_known number rows others clients jobs client job content sound later its told_of new free are = record {
   apart = apart_more clients client job are.apart free;
   each = λ other. by other (other == client) refl;
 }
@@ -91,24 +100,24 @@ opens_known number rows others clients jobs client job sound later load new free
     held : IsHeld (lock_at job.actor.start job.actor.transaction) (traces job.actor.start rows)
     held = subst (λ (t : Transaction). IsHeld (lock_at job.actor.start t) (traces job.actor.start rows)) (sym none) (nothing_of number job.actor.start rows later sound.consistent.times sound.consistent.below)
 
-    known : IsKnown rows job (told.new_job job.actor.start job.triples)
+    known : IsKnown rows job (told.new_job job.actor.start content)
     known = record {
       start = refl;
-      triples = refl;
+      content = told_of;
       is_committed = sym (ap (λ (t : Transaction). t.committed) none);
-      load = load;
+      is = its;
       answers = (let e = ap (λ (a : Actor). length a.answers) new in omega arith);
       prewritten = λ some. absurd (let e = ap (λ (t : Transaction). t.prewritten) none in omega arith);
       held = λ undone met. held;
-      untouched = λ undone rival triple its key row. below_more number job.actor.start (versions_read rows key) later (read_below number rows key sound.consistent.below);
+      untouched = λ undone rival. untouched_yet number job.actor.start rows job.content later sound.consistent.below;
     }
 
-    by : (other : ℕ) (b : Bool) → (other == client) ≡ b → IsKnownOf rows (job_of (clients ++ (record { client = client; job = job }) ∷ []) other) (with_job jobs client (Some (told.new_job job.actor.start job.triples)) other)
-    by other true e = known_as rows (Some job) _ (Some (told.new_job job.actor.start job.triples)) _
-        (ap (job_of (clients ++ (record { client = client; job = job }) ∷ [])) (eqb-true other client e) ∙ more_own clients client job free) (ap (λ b. if b then Some (told.new_job job.actor.start job.triples) else jobs other) e) known
-    by other false e = known_as rows (job_of clients other) _ (jobs other) _ (more_other clients client other job e) (ap (λ b. if b then Some (told.new_job job.actor.start job.triples) else jobs other) e) (are.each other)
+    by : (other : ℕ) (b : Bool) → (other == client) ≡ b → IsKnownOf rows (job_of (clients ++ (record { client = client; job = job }) ∷ []) other) (with_job jobs client (Some (told.new_job job.actor.start content)) other)
+    by other true e = known_as rows (Some job) _ (Some (told.new_job job.actor.start content)) _
+        (ap (job_of (clients ++ (record { client = client; job = job }) ∷ [])) (eqb-true other client e) ∙ more_own clients client job free) (ap (λ b. if b then Some (told.new_job job.actor.start content) else jobs other) e) known
+    by other false e = known_as rows (job_of clients other) _ (jobs other) _ (more_other clients client other job e) (ap (λ b. if b then Some (told.new_job job.actor.start content) else jobs other) e) (are.each other)
 
--- ---- a load that ends
+-- ---- a job that ends
 
 pub ends_known : EndsKnown
 ends_known rows clients jobs client are = record {

@@ -2,6 +2,9 @@ pub mod ClientLemmas
 pub mod KnownLemmas
 pub mod BesideLemmas
 pub mod CommitLemmas
+pub mod ContentLemmas
+pub mod JobLemmas
+pub mod QueryLemmas
 pub mod MovesLemmas
 pub mod StepLemmas
 pub mod AgreeLemmas

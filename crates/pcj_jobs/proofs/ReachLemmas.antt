@@ -19,10 +19,12 @@ use Rattle.pcj_clients.specs.declared.stepped.Stepped.{Stepped}
 use Rattle.pcj_clients.specs.declared.stepped.StepsEnd.TheVariants as all
 use Rattle.pcj_clients.proofs.SoundLemmas.{keeps_all_sound}
 use Rattle.pcj_model.specs.Job as told
-use Rattle.pcj_model.specs.State.{State, all_beside, joined_by, stepped}
-use Rattle.pcj_jobs.specs.Agrees.{Agrees, commit_told, known_after}
+use Rattle.pcj_model.specs.Queries.{Registration}
+use Rattle.pcj_model.specs.State.{State, all_beside, joined_by, names_joined, queries_after, stepped}
+use Rattle.pcj_jobs.specs.Agrees.{Agrees, HasRegistered, commit_told, known_after}
 use Rattle.pcj_jobs.specs.Laws.{StepsKnown}
 use Rattle.pcj_jobs.proofs.AgreeLemmas.{append_nil, is_made, numbers_rise}
+use Rattle.pcj_jobs.proofs.BesideLemmas.{or_parts}
 use Rattle.pcj_jobs.proofs.ClientLemmas.{with_own}
 use Rattle.pcj_jobs.proofs.ComposeLemmas.{SayTheSame, agrees_as, commit_then, grown_none, grown_then, stepped_then}
 use Rattle.pcj_jobs.proofs.LawLemmas.{step_agrees}
@@ -64,7 +66,7 @@ numbers_never_fall (told ∷ more) client clients oracle table new oracle' table
 
 -- ---- the steps so far
 
--- the client's load goes on after so many steps, with this commit if it came
+-- the client's job goes on after so many steps, with this commit if it came
 pub record Reach (state : State) (client : ℕ) (known : told.Job) (others : List Actor) (clients : List Busy) (oracle : Option Block) (table : Table) (commit : Option ℕ) (count : ℕ) : Type 0 where
   pub job : Job
   pub some : job_of clients client ≡ Some job
@@ -72,9 +74,11 @@ pub record Reach (state : State) (client : ℕ) (known : told.Job) (others : Lis
   pub now : State
   pub agrees : Agrees oracle table clients now
   pub has : now.jobs client ≡ Some (told.grown known commit count)
-  pub commits : told.MayCommit known commit
+  pub commits : told.MayCommit state.queries known commit
   pub goes : (more : Option ℕ) (after : Option told.Job) → (commit ≡ None) ⊎ (more ≡ None) → SayTheSame (stepped now client (told.grown known commit count) more after 1) (stepped state client known (commit_then commit more) after (count + 1))
   pub triples : commit ≡ None → HasTriples (row_at table) state.triples
+  pub queries : commit ≡ None → HasRegistered (row_at table) state.queries
+  pub same : commit ≡ None → now.queries ≡ state.queries
   pub is : (commit ≡ None) ⊎ ((1 ≤ count) × (now ≡ stepped state client known commit (Some (told.grown known commit count)) count))
 
 pub reach_first : (state : State) (client : ℕ) (known : told.Job) (others : List Actor) (clients : List Busy) (oracle : Option Block) (table : Table) (job : Job) → job_of clients client ≡ Some job → Sound (state_of oracle table (actors_of clients ++ others)) → Agrees oracle table clients state →
@@ -89,6 +93,8 @@ reach_first state client known others clients oracle table job some sound agrees
   commits = tt;
   goes = λ more after either. same more after;
   triples = λ none. agrees.triples;
+  queries = λ none. agrees.queries;
+  same = λ none. refl;
   is = inl refl;
 }
   where
@@ -96,28 +102,30 @@ reach_first state client known others clients oracle table job some sound agrees
     one = omega arith
 
     same : (more : Option ℕ) (after : Option told.Job) → SayTheSame (stepped state client (told.grown known None 0) more after 1) (stepped state client known (commit_then None more) after (0 + 1))
-    same None after = subst (λ n. SayTheSame (stepped state client (told.grown known None 0) None after 1) (stepped state client known None after n)) (sym one) (record { triples = refl; jobs = λ other. refl; last = refl; backlog = refl })
-    same (Some more) after = subst (λ n. SayTheSame (stepped state client (told.grown known None 0) (Some more) after 1) (stepped state client known (Some more) after n)) (sym one) (record { triples = refl; jobs = λ other. refl; last = refl; backlog = refl })
+    same None after = subst (λ n. SayTheSame (stepped state client (told.grown known None 0) None after 1) (stepped state client known None after n)) (sym one) (record { triples = refl; queries = refl; jobs = λ other. refl; last = refl; backlog = refl })
+    same (Some more) after = subst (λ n. SayTheSame (stepped state client (told.grown known None 0) (Some more) after 1) (stepped state client known (Some more) after n)) (sym one) (record { triples = refl; queries = refl; jobs = λ other. refl; last = refl; backlog = refl })
 
 -- at most one of two commits comes
-pub once : (known : told.Job) (commit more : Option ℕ) (count : ℕ) → told.MayCommit (told.grown known commit count) more → (commit ≡ None) ⊎ (more ≡ None)
-once known None more count may = inl refl
-once known (Some commit) None count may = inr refl
-once known (Some commit) (Some more) count may = absurd (let clash : true ≡ false = sym (or_true known.is_committed) ∙ may.0 in cc)
+pub once : (queries : List Registration) (known : told.Job) (commit more : Option ℕ) (count : ℕ) → told.MayCommit queries (told.grown known commit count) more → (commit ≡ None) ⊎ (more ≡ None)
+once queries known None more count may = inl refl
+once queries known (Some commit) None count may = inr refl
+once queries known (Some commit) (Some more) count may = absurd (let clash : true ≡ false = sym (or_true known.is_committed) ∙ may.0 in cc)
   where
     or_true : (b : Bool) → (b || true) ≡ true
     or_true true = refl
     or_true false = refl
 
-pub commits_then : (known : told.Job) (commit more : Option ℕ) (count : ℕ) → told.MayCommit known commit → told.MayCommit (told.grown known commit count) more → told.MayCommit known (commit_then commit more)
-commits_then known commit None count may next = may
-commits_then known commit (Some more) count may next = (first known.is_committed (is_some commit) next.0, next.1)
-  where
-    first : (a b : Bool) → (a || b) ≡ false → a ≡ false
-    first true b e = absurd cc
-    first false b e = refl
+pub none_of : (commit : Option ℕ) → is_some commit ≡ false → commit ≡ None
+none_of None e = refl
+none_of (Some c) e = absurd cc
 
--- what is known of the load is what was reached
+pub commits_then : (queries now : List Registration) (known : told.Job) (commit more : Option ℕ) (count : ℕ) → (commit ≡ None → now ≡ queries) → told.MayCommit queries known commit → told.MayCommit now (told.grown known commit count) more → told.MayCommit queries known (commit_then commit more)
+commits_then queries now known commit None count same may next = may
+commits_then queries now known commit (Some more) count same may next =
+    let parts = or_parts known.is_committed (is_some commit) next.0 in
+    (parts.0, next.1, ap (λ qs. told.is_name_held qs known.content) (sym (same (none_of commit parts.1))) ∙ next.2)
+
+-- what is known of the job is what was reached
 pub reached : (state : State) (client : ℕ) (known : told.Job) (others : List Actor) (clients : List Busy) (oracle : Option Block) (table : Table) (commit : Option ℕ) (count : ℕ) (reach : Reach state client known others clients oracle table commit count) (found : told.Job) →
     (reach.now).jobs client ≡ Some found → found ≡ told.grown known commit count
 reached state client known others clients oracle table commit count reach found has = some_same found (told.grown known commit count) (sym has ∙ reach.has)
@@ -134,10 +142,12 @@ reach_more state client known others clients oracle table commit count reach eve
   sound = subst (λ (cs : List Busy). Sound (state_of oracle' table' (actors_of cs ++ others))) (sym step.left) (keeps_all_sound clients client reach.job step.after event oracle oracle' table table' reach.some step.sound others reach.sound);
   now = stepped state client known (commit_then commit (commit_told event)) (Some (told.grown known (commit_then commit (commit_told event)) (count + 1))) (count + 1);
   agrees = agrees;
-  has = ap (λ b. if b then Some (told.grown known (commit_then commit (commit_told event)) (count + 1)) else all_beside (joined_by state known (commit_then commit (commit_told event))) state.jobs client) (eq-eqb client client refl);
-  commits = commits_then known commit (commit_told event) count reach.commits may;
+  has = ap (λ b. if b then Some (told.grown known (commit_then commit (commit_told event)) (count + 1)) else all_beside (joined_by state known (commit_then commit (commit_told event))) (names_joined known (commit_then commit (commit_told event))) state.jobs client) (eq-eqb client client refl);
+  commits = commits_then state.queries (reach.now).queries known commit (commit_told event) count reach.same reach.commits may;
   goes = λ more after one. stepped_then state client known (commit_then commit (commit_told event)) more (Some (told.grown known (commit_then commit (commit_told event)) (count + 1))) after (count + 1) one;
   triples = λ none. subst (HasTriples (row_at table')) (ap (λ c. state.triples ++ joined_by state known c) none ∙ append_nil state.triples) agrees.triples;
+  queries = λ none. subst (HasRegistered (row_at table')) (ap (queries_after state.queries known) none) agrees.queries;
+  same = λ none. ap (queries_after state.queries known) none;
   is = inr (omega arith, refl);
 }
   where
@@ -147,11 +157,11 @@ reach_more state client known others clients oracle table commit count reach eve
     same : found.0 ≡ told.grown known commit count
     same = reached state client known others clients oracle table commit count reach found.0 (found.1).has
 
-    may : told.MayCommit (told.grown known commit count) (commit_told event)
-    may = subst (λ k. told.MayCommit k (commit_told event)) same (found.1).commits
+    may : told.MayCommit (reach.now).queries (told.grown known commit count) (commit_told event)
+    may = subst (λ k. told.MayCommit (reach.now).queries k (commit_told event)) same (found.1).commits
 
     one : (commit ≡ None) ⊎ (commit_told event ≡ None)
-    one = once known commit (commit_told event) count may
+    one = once (reach.now).queries known commit (commit_told event) count may
 
     here : Agrees oracle' table' new (stepped reach.now client (told.grown known commit count) (commit_told event) (Some (told.grown known (commit_then commit (commit_told event)) (count + 1))) 1)
     here = subst (λ a. Agrees oracle' table' new (stepped reach.now client (told.grown known commit count) (commit_told event) a 1))

@@ -1,4 +1,4 @@
--- A state stays true with a draw, with a load that begins, and with crashes.
+-- A state stays true with a draw, with a job that begins, and with crashes.
 use Rattle.std.proofs.Common.{◌≡◌, ◌≤◌, ◌<◌, ℕ, Bool, true, false, is_some, ◌==◌, [], ◌∷◌, ◌++◌, Option, Some, None, refl, ap, sym, subst, ◌∙◌, arith, if◌then◌else◌}
 use Rattle.pcj_term.specs.declared.triple.Triple.{Triple}
 use Rattle.pcj_table.specs.declared.plain.Plain.{Plain}
@@ -12,7 +12,7 @@ use Rattle.pcj_encode.specs.declared.order.Order.TheVariants.{Spo}
 use Rattle.pcj_rowtables.specs.Rows.{triple_key}
 use Rattle.pcj_mvcc.proofs.Laws.{changes_one_row}
 use Rattle.pcj_mvcc.proofs.Rows.{put_each}
-use Rattle.pcj_mvcc.specs.Reading.{put, put_of, standing}
+use Rattle.pcj_mvcc.specs.Reading.{SameReading, put, put_of, standing}
 use Rattle.pcj_moves.specs.Actors.{Actor, new_actor}
 use Rattle.pcj_moves.specs.Moves.{WritePlain}
 use Rattle.pcj_pending.proofs.MoveLemmas.{moves_add, steps_add}
@@ -26,6 +26,7 @@ use Rattle.pcj_jobs.specs.Laws.{AllCrashAgree, BesideAgrees, CrashAgrees, DrawAg
 use Rattle.pcj_jobs.proofs.AgreeLemmas.{numbers_rise}
 use Rattle.pcj_jobs.proofs.BesideLemmas.{beside_known, moves_read_alike}
 use Rattle.pcj_jobs.proofs.KnownLemmas.{all_end_known, ends_known, opens_known, plain_stays_known, read_alike}
+use Rattle.pcj_jobs.proofs.QueryLemmas.{registered_alike}
 
 -- ---- a draw
 
@@ -64,6 +65,7 @@ draw_agrees number clients oracle table oracle' table' state drawn agrees = reco
     valid = agrees.triples.valid;
     each = λ triple valid. (λ there. ap is_some (stands triple) ∙ (agrees.triples.each triple valid).0 there, λ some. (agrees.triples.each triple valid).1 (ap is_some (sym (stands triple)) ∙ some));
   };
+  queries = registered_alike (row_at table) (row_at table') state.queries (read_alike (row_at table) (row_at table') alike.rows) agrees.queries;
   last = (let less = agrees.last in let is = drawn.is in let next = drawn.next in omega (arith, less, is, next));
   locks = (let more = alike.adds.locks in let few = agrees.locks in omega (arith, more, few));
   notifications = (let more = alike.adds.notifications in let few = agrees.notifications in omega (arith, more, few));
@@ -81,12 +83,13 @@ draw_agrees number clients oracle table oracle' table' state drawn agrees = reco
     stands triple = ap (λ vs. put_of (newest vs)) (read_alike (row_at table) (row_at table') alike.rows (triple_key Spo triple))
 
 pub opens_agrees : OpensAgrees
-opens_agrees number clients oracle table oracle' table' others state client job drawn sound load new free agrees =
+opens_agrees number clients oracle table oracle' table' others state client job content drawn sound its told_of new free agrees =
     let after = draw_agrees number clients oracle table oracle' table' state drawn agrees in record {
-      known = subst (λ n. AreKnown (row_at table') (clients ++ (record { client = client; job = job }) ∷ []) (with_job state.jobs client (Some (told.new_job n job.triples)))) start
-          (plain_stays_known (row_at table) (row_at table') (clients ++ (record { client = client; job = job }) ∷ []) (with_job state.jobs client (Some (told.new_job job.actor.start job.triples))) alike.rows
-          (opens_known (next_number oracle table) (row_at table) others clients state.jobs client job sound (let is = drawn.is in omega (arith, is, start)) load (new ∙ ap new_actor (sym start)) free agrees.known));
+      known = subst (λ n. AreKnown (row_at table') (clients ++ (record { client = client; job = job }) ∷ []) (with_job state.jobs client (Some (told.new_job n content)))) start
+          (plain_stays_known (row_at table) (row_at table') (clients ++ (record { client = client; job = job }) ∷ []) (with_job state.jobs client (Some (told.new_job job.actor.start content))) alike.rows
+          (opens_known (next_number oracle table) (row_at table) others clients state.jobs client job content sound (let is = drawn.is in omega (arith, is, start)) its told_of (new ∙ ap new_actor (sym start)) free agrees.known));
       triples = after.triples;
+      queries = after.queries;
       last = (let next = drawn.next in omega (arith, next));
       locks = after.locks;
       notifications = after.notifications;
@@ -106,6 +109,7 @@ pub crash_agrees : CrashAgrees
 crash_agrees clients oracle table state client agrees = record {
   known = ends_known (row_at table) clients state.jobs client agrees.known;
   triples = agrees.triples;
+  queries = agrees.queries;
   last = agrees.last;
   locks = agrees.locks;
   notifications = agrees.notifications;
@@ -117,6 +121,7 @@ pub all_crash_agree : AllCrashAgree
 all_crash_agree clients oracle table state agrees = record {
   known = all_end_known (row_at table);
   triples = agrees.triples;
+  queries = agrees.queries;
   last = agrees.last;
   locks = agrees.locks;
   notifications = agrees.notifications;
@@ -128,6 +133,7 @@ pub lost_agrees : LostAgrees
 lost_agrees clients oracle table state clock agrees = record {
   known = agrees.known;
   triples = agrees.triples;
+  queries = agrees.queries;
   last = later oracle clock.attached agrees.last;
   locks = agrees.locks;
   notifications = agrees.notifications;
@@ -148,6 +154,7 @@ beside_agrees moves clients oracle table actor oracle' table' actor' others stat
     valid = agrees.triples.valid;
     each = λ triple valid. (λ there. ap is_some (stands triple) ∙ (agrees.triples.each triple valid).0 there, λ some. (agrees.triples.each triple valid).1 (ap is_some (sym (stands triple)) ∙ some));
   };
+  queries = registered_alike (row_at table) (row_at table') state.queries alike agrees.queries;
   last = (let less = agrees.last in let rise = numbers_rise moves (next_number oracle table) (row_at table) actor (next_number oracle' table') (row_at table') actor' makes in omega (arith, less, rise));
   locks = (let more = added.locks in let most = agrees.locks in omega (arith, more, most));
   notifications = (let more = added.notifications in let most = agrees.notifications in omega (arith, more, most));
@@ -161,5 +168,8 @@ beside_agrees moves clients oracle table actor oracle' table' actor' others stat
     added : AddsAtMost 0 table table'
     added = steps_add moves (next_number oracle table) actor table (next_number oracle' table') actor' table' 0 makes (omega (arith, few))
 
+    alike : SameReading (row_at table) (row_at table')
+    alike = moves_read_alike moves (next_number oracle table) (row_at table) actor (next_number oracle' table') (row_at table') actor' (actors_of clients ++ others) makes sound.consistent same
+
     stands : (triple : Triple) → standing (row_at table') (triple_key Spo triple) ≡ standing (row_at table) (triple_key Spo triple)
-    stands triple = ap (λ vs. put_of (newest vs)) (moves_read_alike moves (next_number oracle table) (row_at table) actor (next_number oracle' table') (row_at table') actor' (actors_of clients ++ others) makes sound.consistent same (triple_key Spo triple))
+    stands triple = ap (λ vs. put_of (newest vs)) (alike (triple_key Spo triple))

@@ -1,29 +1,25 @@
--- A step of one of the loads, and what is known of it and of the others then.
-use Rattle.std.proofs.Common.{◌≡◌, ◌⊎◌, inl, inr, ◌≤◌, ◌+◌, ℕ, Bool, true, false, not, ◌||◌, is_some, List, [], ◌∷◌, length, filter, Option, Some, None, refl, ap, sym, subst, ◌∙◌, arith}
-use Rattle.std.specs.List.{All, Contains, list_any}
+-- A step of one of the jobs, and what is known of it and of the others then.
+use Rattle.std.proofs.Common.{◌≡◌, ◌≢◌, ◌⊎◌, inl, inr, ◌≤◌, ◌+◌, ℕ, Bool, true, false, not, ◌||◌, is_some, List, [], ◌∷◌, length, filter, Option, Some, None, refl, ap, sym, subst, ◌∙◌, arith}
 use Rattle.pcj_term.specs.declared.triple.Triple.{Triple}
-use Rattle.pcj_table.specs.Row.{are_below}
-use Rattle.pcj_encode.specs.Name.{IsTriple}
-use Rattle.pcj_mvcc.specs.Reading.{Rows, SameReading, versions_read}
+use Rattle.pcj_mvcc.specs.Reading.{Rows, SameReading}
 use Rattle.pcj_moves.specs.Actors.{Actor}
 use Rattle.pcj_moves.specs.Moves.{IsConsistent, Makes, Move}
 use Rattle.pcj_moves.specs.Reads.{Reads}
-use Rattle.pcj_moves.specs.Transactions.{Transaction}
-use Rattle.pcj_txn.specs.Progress.{Progress as TxnProgress}
-use Rattle.pcj_fit.specs.Plans.{IsLoadPlan}
 use Rattle.pcj_fit.specs.Triples.{HasTriples}
-use Rattle.pcj_client.specs.Job.{HasCome, IsLoadJob, Job}
+use Rattle.pcj_client.specs.Job.{Content, IsJob, Job}
 use Rattle.pcj_client.specs.Events.{CommitsOnce, PrewritesOne, ReadsOne}
 use Rattle.pcj_client.specs.declared.event.JobEvent.{JobEvent}
 use Rattle.pcj_client.specs.declared.event.JobEvent.TheVariants as does
 use Rattle.pcj_model.specs.Job as told
 use Rattle.pcj_jobs.specs.Agrees.{commit_told}
-use Rattle.pcj_jobs.specs.Known.{AreUntouched, IsKnown}
+use Rattle.pcj_jobs.specs.Known.{AreUntouched, IsContentOf, IsKnown}
 use Rattle.pcj_jobs.proofs.BesideLemmas.{moves_read_alike, stays_committed}
-use Rattle.pcj_jobs.proofs.CommitLemmas.{untouched_by_commit}
+use Rattle.pcj_jobs.proofs.ContentLemmas.{IsPlanOf, IsValidContent, untouched_by_commit}
+use Rattle.pcj_jobs.proofs.JobLemmas.{first_step, plan_of}
+use Rattle.pcj_jobs.proofs.KnownLemmas.{untouched_alike}
 use Rattle.pcj_jobs.proofs.MovesLemmas.{CommitsAmong, commits_among, moves_keep_own}
 
--- ---- what a step of a load says of its commit
+-- ---- what a step of a job says of its commit
 
 -- it commits, with this, or it doesn't
 pub committed_same : (event : JobEvent) (old new : Job) → CommitsOnce old event new → commit_told event ≡ None → new.actor.transaction.committed ≡ old.actor.transaction.committed
@@ -41,62 +37,61 @@ committed_with does.Done old new commit once some = absurd cc
 committed_with does.Aborted old new commit once some = absurd cc
 committed_with does.Taken old new commit once some = absurd cc
 
--- the plan of a job that is committed
-plan_of : (job : Job) → IsLoadJob job → job.actor.transaction.committed ≡ true → IsLoadPlan job.actor.start job.actor.answers job.actor.transaction.writes job.triples
-plan_of job is done = by job.writing is.come
-  where
-    by : (writing : Option TxnProgress) → HasCome writing job → IsLoadPlan job.actor.start job.actor.answers job.actor.transaction.writes job.triples
-    by None come = absurd (let clash : true ≡ false = sym done ∙ ap (λ (t : Transaction). t.committed) come.0 in cc)
-    by (Some progress) come = come.2
+-- ---- another job
 
--- ---- another load
+abbrev pub joins : List Triple → told.Content → Option ℕ → List Triple
+joins known content None = []
+joins known content (Some commit) = filter (λ triple. not (told.is_among known triple)) (told.triples_of content)
 
-abbrev pub joins : List Triple → List Triple → Option ℕ → List Triple
-joins known triples None = []
-joins known triples (Some commit) = filter (λ triple. not (told.is_among known triple)) triples
+abbrev pub names_joining : told.Content → Option ℕ → List (List ℕ)
+names_joining content None = []
+names_joining content (Some commit) = told.names_of content
 
 -- what is untouched beside a step
-pub step_untouched : (job after : Job) (event : JobEvent) (number : ℕ) (rows : Rows) (number' : ℕ) (rows' : Rows) (others : List Actor) (moves : List Move) (known : List Triple) (its : List Triple) (time : ℕ) → CommitsOnce job event after → IsLoadJob after → after.triples ≡ job.triples →
-    Makes moves number rows job.actor number' rows' after.actor → IsConsistent (record { number = number; rows = rows; actors = job.actor ∷ others }) → Reads rows' after.actor.start after.actor.answers → HasTriples rows known → All IsTriple its →
-    list_any (told.is_among its) (joins known job.triples (commit_told event)) ≡ false → AreUntouched rows time its → AreUntouched rows' time its
-step_untouched job after event number rows number' rows' others moves known its time once is content makes consistent reads has valid none untouched = by (commit_told event) refl none
+pub step_untouched : (job after : Job) (event : JobEvent) (number : ℕ) (rows : Rows) (number' : ℕ) (rows' : Rows) (others : List Actor) (moves : List Move) (told_of : told.Content) (known : List Triple) (its : Content) (told_its : told.Content) (time : ℕ) → CommitsOnce job event after → IsJob after → after.content ≡ job.content →
+    Makes moves number rows job.actor number' rows' after.actor → IsConsistent (record { number = number; rows = rows; actors = job.actor ∷ others }) → Reads rows' after.actor.start after.actor.answers → HasTriples rows known →
+    IsContentOf job.content told_of → IsContentOf its told_its → IsValidContent time its → time ≢ after.actor.start →
+    told.is_rival told_its (joins known told_of (commit_told event)) (names_joining told_of (commit_told event)) ≡ false → AreUntouched rows time its → AreUntouched rows' time its
+step_untouched job after event number rows number' rows' others moves told_of known its told_its time once is content makes consistent reads has told_content told_other valid differs none untouched = by (commit_told event) refl none
   where
     alike : SameReading rows rows' → AreUntouched rows' time its
-    alike same triple there key row = ap (are_below time) (same key) ∙ untouched triple there key row
+    alike same = untouched_alike rows rows' time its same untouched
 
-    by : (commit : Option ℕ) → commit_told event ≡ commit → list_any (told.is_among its) (joins known job.triples commit) ≡ false → AreUntouched rows' time its
+    by : (commit : Option ℕ) → commit_told event ≡ commit → told.is_rival told_its (joins known told_of commit) (names_joining told_of commit) ≡ false → AreUntouched rows' time its
     by None e none = alike (moves_read_alike moves number rows job.actor number' rows' after.actor others makes consistent (committed_same event job after once e))
     by (Some commit) e none = either (commits_among moves number rows job.actor number' rows' after.actor others makes consistent facts.1 facts.2)
       where
         facts : (job.actor.transaction.commit ≡ Some commit) × (job.actor.transaction.committed ≡ false) × (after.actor.transaction.committed ≡ true)
         facts = committed_with event job after commit once e
 
-        plan : IsLoadPlan after.actor.start after.actor.answers after.actor.transaction.writes job.triples
-        plan = subst (IsLoadPlan after.actor.start after.actor.answers after.actor.transaction.writes) content (plan_of after is facts.2)
+        plan : IsPlanOf job.content after.actor.start after.actor.answers after.actor.transaction.writes
+        plan = subst (λ c. IsPlanOf c after.actor.start after.actor.answers after.actor.transaction.writes) content (plan_of after is facts.2)
 
         either : CommitsAmong rows job.actor rows' after.actor others ⊎ SameReading rows rows' → AreUntouched rows' time its
         either (inr same) = alike same
-        either (inl c) = untouched_by_commit c.number c.at c.by others c.write c.commit rows rows' after.actor.answers job.triples known time its c.is c.may c.before c.after
-            (subst (λ ws. IsLoadPlan c.by.start after.actor.answers ws job.triples) c.writes (subst (λ s. IsLoadPlan s after.actor.answers after.actor.transaction.writes job.triples) c.start plan))
-            (subst (λ s. Reads rows' s after.actor.answers) c.start reads) has valid none untouched
+        either (inl c) = untouched_by_commit c.number c.at c.by others c.write c.commit rows rows' after.actor.answers job.content told_of known time its told_its c.is c.may c.before c.after
+            (subst (λ ws. IsPlanOf job.content c.by.start after.actor.answers ws) c.writes (subst (λ s. IsPlanOf job.content s after.actor.answers after.actor.transaction.writes) c.start plan))
+            (subst (λ s. Reads rows' s after.actor.answers) c.start reads) has told_content told_other valid (λ same. differs (same ∙ sym c.start)) none untouched
 
--- ---- its own load
+-- ---- its own job
 
-pub own_known : (job after : Job) (event : JobEvent) (number : ℕ) (rows : Rows) (number' : ℕ) (rows' : Rows) (others : List Actor) (moves : List Move) (known : told.Job) → CommitsOnce job event after → IsLoadJob after → after.triples ≡ job.triples → after.actor.start ≡ job.actor.start → ReadsOne job after ⊎ PrewritesOne job after →
+pub own_known : (job after : Job) (event : JobEvent) (number : ℕ) (rows : Rows) (number' : ℕ) (rows' : Rows) (others : List Actor) (moves : List Move) (known : told.Job) → CommitsOnce job event after → IsJob after → after.content ≡ job.content → after.actor.start ≡ job.actor.start → ReadsOne job after ⊎ PrewritesOne job after →
     Makes moves number rows job.actor number' rows' after.actor → IsConsistent (record { number = number; rows = rows; actors = job.actor ∷ others }) → IsKnown rows job known → IsKnown rows' after (told.grown known (commit_told event) 1)
-own_known job after event number rows number' rows' others moves known once load content start one makes consistent is = record {
+own_known job after event number rows number' rows' others moves known once its content start one makes consistent is = record {
   start = is.start ∙ sym start;
-  triples = is.triples ∙ sym content;
+  content = told_of;
   is_committed = committed_is (commit_told event) refl;
-  load = load;
+  is = its;
   answers = answers one;
   prewritten = prewritten one;
   held = λ undone met. moves_keep_own moves number rows job.actor number' rows' after.actor others makes consistent undone (is.held (before undone) met);
-  untouched = λ undone rival triple there key row.
-      ap (are_below after.actor.start) (moves_read_alike moves number rows job.actor number' rows' after.actor others makes consistent (undone ∙ sym (before undone)) key)
-      ∙ ap (λ s. are_below s (versions_read rows key)) start ∙ is.untouched (before undone) rival triple (subst (λ ts. Contains ts triple) content there) key row;
+  untouched = λ undone rival. subst (AreUntouched rows' after.actor.start) (sym content) (subst (λ s. AreUntouched rows' s job.content) (sym start)
+      (untouched_alike rows rows' job.actor.start job.content (moves_read_alike moves number rows job.actor number' rows' after.actor others makes consistent (undone ∙ sym (before undone))) (is.untouched (before undone) rival)));
 }
   where
+    told_of : IsContentOf after.content known.content
+    told_of = subst (λ c. IsContentOf c known.content) (sym content) is.content
+
     or_false : (b : Bool) → (b || false) ≡ b
     or_false true = refl
     or_false false = refl
@@ -120,13 +115,6 @@ own_known job after event number rows number' rows' others moves known once load
     answers (inl reads) = let more = reads.answers in let few = is.answers in omega arith
     answers (inr prewrites) = let same = ap length prewrites.answers in let few = is.answers in omega (arith, same, few)
 
-    all : length after.actor.answers ≤ known.steps → 1 ≤ after.actor.transaction.prewritten → length after.triples ≤ known.steps
-    all few some = by after.writing load.come
-      where
-        by : (writing : Option TxnProgress) → HasCome writing after → length after.triples ≤ known.steps
-        by None come = absurd (let none = ap (λ (t : Transaction). t.prewritten) come.0 in omega (arith, none, some))
-        by (Some progress) come = let same = come.2.all in omega (arith, same, few)
-
-    prewritten : ReadsOne job after ⊎ PrewritesOne job after → 1 ≤ after.actor.transaction.prewritten → length after.triples + 1 ≤ known.steps + 1
-    prewritten (inl reads) some = let was : length job.triples + 1 ≤ known.steps = is.prewritten (let same = reads.prewritten in omega (arith, same, some)) in let same = ap length content in omega (arith, was, same)
-    prewritten (inr prewrites) some = let few : length after.actor.answers ≤ known.steps = (let same = ap length prewrites.answers in let le = is.answers in omega (arith, same, le)) in let le = all few some in omega (arith, le)
+    prewritten : ReadsOne job after ⊎ PrewritesOne job after → 1 ≤ after.actor.transaction.prewritten → told.first_of known.content ≤ known.steps + 1
+    prewritten (inl reads) some = let was : told.first_of known.content ≤ known.steps = is.prewritten (let same = reads.prewritten in omega (arith, same, some)) in omega (arith, was)
+    prewritten (inr prewrites) some = first_step after known.content known.steps its told_of (let same = ap length prewrites.answers in let le = is.answers in omega (arith, same, le)) some

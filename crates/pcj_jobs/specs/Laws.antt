@@ -1,4 +1,4 @@
--- How what is known of the loads in flight stays true.
+-- How what is known of the jobs in flight stays true.
 use Rattle.std.specs.Prelude.{◌≡◌, ◌≢◌, ◌⊎◌, ◌≤◌, ◌+◌, ◌^◌, ℕ, false, List, [], ◌∷◌, ◌++◌, Option, Some, None}
 use Rattle.pcj_table.specs.Table.{Key, Table, row_at}
 use Rattle.pcj_oracle.specs.Clock.{IsClock, next_number}
@@ -11,7 +11,7 @@ use Rattle.pcj_actor.specs.StepLaws as step
 use Rattle.pcj_fit.specs.Laws.{state_of}
 use Rattle.pcj_fit.specs.Sound.{Sound}
 use Rattle.pcj_fit.specs.Triples.{HasTriples}
-use Rattle.pcj_client.specs.Job.{IsLoadJob, Job}
+use Rattle.pcj_client.specs.Job.{IsJob, Job}
 use Rattle.pcj_client.specs.declared.event.JobEvent.{JobEvent}
 use Rattle.pcj_clients.specs.Clients.{actors_of, job_of, without_job}
 use Rattle.pcj_clients.specs.Laws.{IsJobStep}
@@ -21,11 +21,11 @@ use Rattle.pcj_clients.specs.declared.stepped.StepsEnd.{StepsEnd}
 use Rattle.pcj_clients.specs.declared.stepped.StepsEnd.TheVariants as all
 use Rattle.pcj_clients.specs.declared.busy.Busy.{Busy}
 use Rattle.pcj_model.specs.Job as told
-use Rattle.pcj_model.specs.State.{State, all_beside, stepped, with_job, with_jobs, with_load}
-use Rattle.pcj_jobs.specs.Agrees.{Agrees, EndsAs, commit_told, known_after}
-use Rattle.pcj_jobs.specs.Known.{AreKnown}
+use Rattle.pcj_model.specs.State.{State, all_beside, opened, stepped, with_job, with_jobs}
+use Rattle.pcj_jobs.specs.Agrees.{Agrees, EndsAs, HasRegistered, commit_told, known_after}
+use Rattle.pcj_jobs.specs.Known.{AreKnown, IsContentOf}
 
--- ---- loads that begin and end
+-- ---- jobs that begin and end
 
 -- no lock and no version is another, as after a draw, which writes the clock's plain value alone
 abbrev pub SameButPlain : Rows → Rows → Type 0
@@ -34,13 +34,13 @@ SameButPlain before after = (key : Key) → ((after key).lock ≡ (before key).l
 abbrev pub PlainStaysKnown : Type 0
 PlainStaysKnown = (before after : Rows) (clients : List Busy) (jobs : ℕ → Option told.Job) → SameButPlain before after → AreKnown before clients jobs → AreKnown after clients jobs
 
--- a load that begins with a number that wasn't granted before
+-- a job that begins with a number that wasn't granted before: a load of these triples, or a registration of this query
 abbrev pub OpensKnown : Type 0
-OpensKnown = (number : ℕ) (rows : Rows) (others : List Actor) (clients : List Busy) (jobs : ℕ → Option told.Job) (client : ℕ) (job : Job) → Sound (state_of number rows others) → number ≤ job.actor.start →
-    IsLoadJob job → job.actor ≡ new_actor job.actor.start → job_of clients client ≡ None → AreKnown rows clients jobs →
-    AreKnown rows (clients ++ (record { client = client; job = job }) ∷ []) (with_job jobs client (Some (told.new_job job.actor.start job.triples)))
+OpensKnown = (number : ℕ) (rows : Rows) (others : List Actor) (clients : List Busy) (jobs : ℕ → Option told.Job) (client : ℕ) (job : Job) (content : told.Content) → Sound (state_of number rows others) → number ≤ job.actor.start →
+    IsJob job → IsContentOf job.content content → job.actor ≡ new_actor job.actor.start → job_of clients client ≡ None → AreKnown rows clients jobs →
+    AreKnown rows (clients ++ (record { client = client; job = job }) ∷ []) (with_job jobs client (Some (told.new_job job.actor.start content)))
 
--- the load of a client that ends where it stands, and all of them
+-- the job of a client that ends where it stands, and all of them
 abbrev pub EndsKnown : Type 0
 EndsKnown = (rows : Rows) (clients : List Busy) (jobs : ℕ → Option told.Job) (client : ℕ) → AreKnown rows clients jobs → AreKnown rows (without_job clients client) (with_job jobs client None)
 
@@ -53,20 +53,20 @@ AllEndKnown = (rows : Rows) → AreKnown rows [] (λ client. None)
 abbrev pub BesideKnown : Type 0
 BesideKnown = (moves : List Move) (number : ℕ) (rows : Rows) (actor : Actor) (number' : ℕ) (rows' : Rows) (actor' : Actor) (others : List Actor) (clients : List Busy) (jobs : ℕ → Option told.Job) →
     Makes moves number rows actor number' rows' actor' → actor'.transaction.committed ≡ actor.transaction.committed → Sound (state_of number rows (actor ∷ (actors_of clients ++ others))) →
-    AreKnown rows clients jobs → AreKnown rows' clients (all_beside [] jobs)
+    AreKnown rows clients jobs → AreKnown rows' clients (all_beside [] [] jobs)
 
 -- ---- a step of one of them
 
 -- the step of a client's job, which is known
 pub record StepsKnown (client : ℕ) (old : List Busy) (oracle : Option Block) (table : Table) (event : JobEvent) (new : List Busy) (oracle' : Option Block) (table' : Table) (state : State) (known : told.Job) : Type 0 where
   pub has : state.jobs client ≡ Some known
-  pub commits : told.MayCommit known (commit_told event)
+  pub commits : told.MayCommit state.queries known (commit_told event)
   pub end : told.StepsEnd
   pub ends_as : EndsAs event end
-  pub ends : told.MayEnd known (commit_told event) end
+  pub ends : told.MayEnd state.queries known (commit_told event) end
   pub agrees : Agrees oracle' table' new (stepped state client known (commit_told event) (known_after known event) 1)
 
--- It tells what may be told of a load of which so much is known, and what is known after it is true.
+-- It tells what may be told of a job of which so much is known, and what is known after it is true.
 abbrev pub StepAgrees : Type 0
 StepAgrees = (client : ℕ) (old : List Busy) (oracle : Option Block) (table : Table) (event : JobEvent) (new : List Busy) (oracle' : Option Block) (table' : Table) (job : Job) (others : List Actor) (state : State) →
     job_of old client ≡ Some job → IsJobStep job client old oracle table event new oracle' table' → Sound (step.state_of oracle table (actors_of old ++ others)) → next_number oracle' table' ≤ 2 ^ 48 → Agrees oracle table old state →
@@ -86,18 +86,18 @@ IsEndOf all.AllMade end = end ≡ told.StepsEnd.AllMade
 IsEndOf all.Nothing end = ⊥
 IsEndOf all.Done end = end ≡ told.StepsEnd.IsDone
 IsEndOf all.Aborted end = end ≡ told.StepsEnd.IsAborted
-IsEndOf all.Taken end = ⊥
+IsEndOf all.Taken end = end ≡ told.StepsEnd.IsTaken
 IsEndOf all.Fault end = end ≡ told.StepsEnd.Fails
 IsEndOf all.Spent end = ⊥
 
--- They are answered as the load allows of which so much is known, and the state behind the answer is true.
+-- They are answered as the job allows of which so much is known, and the state behind the answer is true.
 pub record StepsAnswer (client most : ℕ) (new : List Busy) (oracle' : Option Block) (table' : Table) (state : State) (came : Stepped) : Type 0 where
   pub known : told.Job
   pub has : state.jobs client ≡ Some known
   pub end : told.StepsEnd
   pub ends_as : IsEndOf came.end end
   pub after : Option told.Job
-  pub reply : told.StepsReply known client most (told.steps_lines client came.commit end came.count) came.commit after
+  pub reply : told.StepsReply state.queries known client most (told.steps_lines client came.commit end came.count) came.commit after
   pub count : reply.count ≡ came.count
   pub agrees : Agrees oracle' table' new (stepped state client known came.commit after came.count)
 
@@ -106,7 +106,7 @@ StepsAgree = (client most : ℕ) (old : List Busy) (oracle : Option Block) (tabl
     job_of old client ≡ Some job → 1 ≤ most → AreStepsOf client most old oracle table events new oracle' table' → (stepped_from no_steps events).end ≢ all.Spent → Sound (step.state_of oracle table (actors_of old ++ others)) →
     next_number oracle' table' ≤ 2 ^ 48 → Agrees oracle table old state → StepsAnswer client most new oracle' table' state (stepped_from no_steps events)
 
--- Where the last would draw 2^48, none of them drew a commit, and the triples are those from before.
+-- Where the last would draw 2^48, none of them drew a commit, and the triples and the queries are those from before.
 pub record SpentKnown (client : ℕ) (new : List Busy) (oracle' : Option Block) (table' : Table) (state : State) (came : Stepped) : Type 0 where
   pub known : told.Job
   pub has : state.jobs client ≡ Some known
@@ -116,20 +116,21 @@ pub record SpentKnown (client : ℕ) (new : List Busy) (oracle' : Option Block) 
   pub count : came.count ≡ made + 1
   pub agrees : Agrees oracle' table' new (stepped state client known None (Some (told.grown known None made)) came.count)
   pub triples : HasTriples (row_at table') state.triples
+  pub queries : HasRegistered (row_at table') state.queries
 
 abbrev pub SpentAgrees : Type 0
 SpentAgrees = (client most : ℕ) (old : List Busy) (oracle : Option Block) (table : Table) (events : List Told) (new : List Busy) (oracle' : Option Block) (table' : Table) (job : Job) (others : List Actor) (state : State) →
     job_of old client ≡ Some job → 1 ≤ most → AreStepsOf client most old oracle table events new oracle' table' → (stepped_from no_steps events).end ≡ all.Spent → Sound (step.state_of oracle table (actors_of old ++ others)) →
     next_number oracle' table' ≤ 2 ^ 48 → Agrees oracle table old state → SpentKnown client new oracle' table' state (stepped_from no_steps events)
 
--- Where there was no memory for the last, no triple joined, or the load's did, and the state behind the steps before is true.
+-- Where there was no memory for the last, no triple and no query joined, or the job's did, and the state behind the steps before is true.
 pub record ShortKnown (client most : ℕ) (new : List Busy) (oracle' : Option Block) (table' : Table) (state : State) : Type 0 where
   pub known : told.Job
   pub has : state.jobs client ≡ Some known
   pub commit : Option ℕ
   pub count : ℕ
-  pub commits : told.MayCommit known commit
-  pub left : HasTriples (row_at table') state.triples ⊎ ((1 ≤ count) × (count ≤ most) × Agrees oracle' table' new (stepped state client known commit (Some (told.grown known commit count)) count))
+  pub commits : told.MayCommit state.queries known commit
+  pub left : (HasTriples (row_at table') state.triples × HasRegistered (row_at table') state.queries) ⊎ ((1 ≤ count) × (count ≤ most) × Agrees oracle' table' new (stepped state client known commit (Some (told.grown known commit count)) count))
 
 abbrev pub ShortAgrees : Type 0
 ShortAgrees = (client most : ℕ) (old : List Busy) (oracle : Option Block) (table : Table) (events : List Told) (new : List Busy) (oracle' : Option Block) (table' : Table) (job : Job) (others : List Actor) (state : State) →
@@ -149,13 +150,13 @@ NumbersNeverFall = (events : List Told) (client : ℕ) (old : List Busy) (oracle
 abbrev pub DrawAgrees : Type 0
 DrawAgrees = (number : ℕ) (clients : List Busy) (oracle : Option Block) (table : Table) (oracle' : Option Block) (table' : Table) (state : State) → IsNumber number oracle table oracle' table' → Agrees oracle table clients state → Agrees oracle' table' clients state
 
--- a load that begins with the number that was drawn for it
+-- a job that begins with the number that was drawn for it
 abbrev pub OpensAgrees : Type 0
-OpensAgrees = (number : ℕ) (clients : List Busy) (oracle : Option Block) (table : Table) (oracle' : Option Block) (table' : Table) (others : List Actor) (state : State) (client : ℕ) (job : Job) → IsNumber number oracle table oracle' table' →
-    Sound (step.state_of oracle table others) → IsLoadJob job → job.actor ≡ new_actor number → job_of clients client ≡ None → Agrees oracle table clients state →
-    Agrees oracle' table' (clients ++ (record { client = client; job = job }) ∷ []) (with_load state client number job.triples)
+OpensAgrees = (number : ℕ) (clients : List Busy) (oracle : Option Block) (table : Table) (oracle' : Option Block) (table' : Table) (others : List Actor) (state : State) (client : ℕ) (job : Job) (content : told.Content) → IsNumber number oracle table oracle' table' →
+    Sound (step.state_of oracle table others) → IsJob job → IsContentOf job.content content → job.actor ≡ new_actor number → job_of clients client ≡ None → Agrees oracle table clients state →
+    Agrees oracle' table' (clients ++ (record { client = client; job = job }) ∷ []) (opened state client number content)
 
--- the load of a client that ends where it stands, and all of them
+-- the job of a client that ends where it stands, and all of them
 abbrev pub CrashAgrees : Type 0
 CrashAgrees = (clients : List Busy) (oracle : Option Block) (table : Table) (state : State) (client : ℕ) → Agrees oracle table clients state → Agrees oracle table (without_job clients client) (with_jobs state (with_job state.jobs client None))
 
@@ -170,4 +171,4 @@ LostAgrees = (clients : List Busy) (oracle : Option Block) (table : Table) (stat
 abbrev pub BesideAgrees : Type 0
 BesideAgrees = (moves : List Move) (clients : List Busy) (oracle : Option Block) (table : Table) (actor : Actor) (oracle' : Option Block) (table' : Table) (actor' : Actor) (others : List Actor) (state : State) →
     Makes moves (next_number oracle table) (row_at table) actor (next_number oracle' table') (row_at table') actor' → actor'.transaction.committed ≡ actor.transaction.committed → actor'.transaction.prewritten ≤ actor.transaction.prewritten →
-    Sound (step.state_of oracle table (actor ∷ (actors_of clients ++ others))) → Agrees oracle table clients state → Agrees oracle' table' clients (with_jobs state (all_beside [] state.jobs))
+    Sound (step.state_of oracle table (actor ∷ (actors_of clients ++ others))) → Agrees oracle table clients state → Agrees oracle' table' clients (with_jobs state (all_beside [] [] state.jobs))

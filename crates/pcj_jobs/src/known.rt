@@ -1,6 +1,6 @@
 ghost use Rattle.pcj_jobs.specs.Laws.{AllEndKnown, BesideKnown, EndsKnown, OpensKnown, PlainStaysKnown};
 
-/// A load that begins is known, one that ends is known no more, and a draw changes nothing that is known.
+/// A job that begins is known, one that ends is known no more, and a draw changes nothing that is known.
 pub fn jobs_begin_and_end()
     ensures plain { PlainStaysKnown }
     ensures opens { OpensKnown }

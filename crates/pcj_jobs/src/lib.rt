@@ -1,4 +1,4 @@
-//! What a reader of the transcript knows of the loads in flight, and that it is true.
+//! What a reader of the transcript knows of the jobs in flight, and that it is true.
 #![tactic(auto)]
 
 mod commands;
