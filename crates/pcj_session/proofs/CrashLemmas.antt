@@ -17,6 +17,7 @@ use Rattle.pcj_model.specs.Reply.{Language, crash_line}
 use Rattle.pcj_model.specs.State.{State, with_job, with_jobs}
 use Rattle.pcj_session.specs.Session.{Held, Holds}
 use Rattle.pcj_session.proofs.DrawLemmas.{with_oracle, Says}
+use Rattle.pcj_session.proofs.NameLemmas.{open_on}
 use Rattle.pcj_session.proofs.StepLemmas.{with_clients}
 
 -- without its numbers the oracle goes on at the stored one
@@ -30,7 +31,8 @@ lost_later (Some block) table clock = let last = clock.attached.last in let is =
 pub lost_holds : (others : List Actor) (held : Held) (table : Table) (state : State) → IsClock held.oracle table → Holds others held table state → Holds others (with_oracle held None) table state
 lost_holds others held table state clock holds = record {
   sound = higher_is_sound (next_number held.oracle table) (next_number None table) (row_at table) (actors_of held.clients ++ others) (lost_later held.oracle table clock) holds.sound;
-  queries = holds.queries;
+  kept = holds.kept;
+  opened = holds.opened;
   agrees = lost_agrees held.clients held.oracle table state clock holds.agrees;
 }
 
@@ -41,7 +43,8 @@ client_crashed language others client held clients table state lines told is end
   record { told = told; left = refl },
   record {
     sound = ends (next_number held.oracle table) (row_at table) others holds.sound;
-    queries = holds.queries;
+    kept = holds.kept;
+    opened = open_on client None held.opened state.jobs tt holds.opened;
     agrees = subst (λ cs. Agrees held.oracle table cs (with_jobs state (with_job state.jobs client None))) (sym is) (crash_agrees held.clients held.oracle table state client holds.agrees);
   },
 )
@@ -53,7 +56,8 @@ all_crashed language others held clients table state lines told is ends clock ho
   record { told = told; left = refl },
   lost_holds others (with_clients held clients held.oracle) table (with_jobs state (λ client. None)) clock (record {
     sound = ends (next_number held.oracle table) (row_at table) others holds.sound;
-    queries = holds.queries;
+    kept = holds.kept;
+    opened = λ client. tt;
     agrees = subst (λ cs. Agrees held.oracle table cs (with_jobs state (λ client. None))) (sym is) (all_crash_agree held.clients held.oracle table state holds.agrees);
   }),
 )

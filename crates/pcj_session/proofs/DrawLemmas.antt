@@ -1,5 +1,5 @@
 -- What numbers that are drawn leave of a session's table.
-use Rattle.std.proofs.Common.{◌≡◌, ◌≤◌, ◌<◌, ◌+◌, ◌^◌, ℕ, zero, suc, List, [], ◌++◌, Option, Result, IfErr, IsErrAnd, Some, None, inl, inr, refl, sym, subst, ◌∙◌, arith}
+use Rattle.std.proofs.Common.{◌≡◌, ◌≤◌, ◌<◌, ◌^◌, ℕ, suc, List, [], ◌++◌, Option, Result, IfErr, IfOk, IsErrAnd, Some, None, inl, refl, sym, subst, arith}
 use Rattle.std.proofs.lemmas.Result.{err_from_is_err_and}
 use Rattle.pcj_table.specs.Table.{Table, row_at}
 use Rattle.pcj_oracle.specs.Clock.{IsClock, next_number}
@@ -19,7 +19,8 @@ use Rattle.pcj_model.specs.State.{State}
 use Rattle.pcj_scan.proofs.ScanLemmas.{begun}
 use Rattle.pcj_jobs.specs.Agrees.{Agrees}
 use Rattle.pcj_jobs.proofs.StateLemmas.{draw_agrees}
-use Rattle.pcj_session.specs.Draws.{DrawsTwo, DrawsUpTo}
+use Rattle.pcj_algebra.specs.declared.query.Query.{Query}
+use Rattle.pcj_session.specs.declared.registry.Opened.{Opened}
 use Rattle.pcj_session.specs.declared.reply.Reply.{Reply}
 use Rattle.pcj_session.specs.declared.stop.Stop.{Stop}
 use Rattle.pcj_session.specs.declared.stop.Stop.TheVariants as stops
@@ -27,7 +28,7 @@ use Rattle.pcj_session.specs.Session.{Held, Holds, IsLeft, StopsAt}
 
 -- a session's clients and queries, with another oracle
 abbrev pub with_oracle : Held → Option Block → Held
-with_oracle held oracle = record { clients = held.clients; queries = held.queries; oracle = oracle }
+with_oracle held oracle = record { clients = held.clients; queries = held.queries; opened = held.opened; oracle = oracle }
 
 -- these lines may answer the command, and what they leave is so
 abbrev pub Says : Language → List Actor → State → Command → Held → Table → List Line → Type 0
@@ -49,6 +50,7 @@ pub keeps_agree : (oracle : Option Block) (table : Table) (oracle' : Option Bloc
 keeps_agree oracle table oracle' table' clients state keeps agrees = subst (λ t. Agrees oracle' t clients state) (sym keeps.same) (record {
   known = agrees.known;
   triples = agrees.triples;
+  queries = agrees.queries;
   last = subst (λ n. state.last < n) (sym (subst (λ t. next_number oracle' t ≡ next_number oracle table) keeps.same keeps.next)) agrees.last;
   locks = agrees.locks;
   notifications = agrees.notifications;
@@ -59,7 +61,8 @@ keeps_agree oracle table oracle' table' clients state keeps agrees = subst (λ t
 pub keeps_hold : (others : List Actor) (held : Held) (oracle' : Option Block) (table table' : Table) (state : State) → Keeps held.oracle table oracle' table' → Holds others held table state → Holds others (with_oracle held oracle') table' state
 keeps_hold others held oracle' table table' state keeps holds = record {
   sound = keeps_sound held.oracle table oracle' table' (actors_of held.clients ++ others) keeps holds.sound;
-  queries = holds.queries;
+  kept = holds.kept;
+  opened = holds.opened;
   agrees = keeps_agree held.oracle table oracle' table' held.clients state keeps holds.agrees;
 }
 
@@ -75,28 +78,27 @@ drawn_sound number oracle table oracle' table' actors drawn sound =
 pub drawn_holds : (number : ℕ) (others : List Actor) (held : Held) (oracle' : Option Block) (table table' : Table) (state : State) → IsNumber number held.oracle table oracle' table' → Holds others held table state → Holds others (with_oracle held oracle') table' state
 drawn_holds number others held oracle' table table' state drawn holds = record {
   sound = drawn_sound number held.oracle table oracle' table' (actors_of held.clients ++ others) drawn holds.sound;
-  queries = holds.queries;
+  kept = holds.kept;
+  opened = holds.opened;
   agrees = draw_agrees number held.clients held.oracle table oracle' table' state drawn holds.agrees;
 }
 
--- ---- some of them
-
-pub some_hold : (count : ℕ) (others : List Actor) (held : Held) (oracle' : Option Block) (table table' : Table) (state : State) → DrawsUpTo count held.oracle table oracle' table' → Holds others held table state → Holds others (with_oracle held oracle') table' state
-some_hold zero others held oracle' table table' state draws holds = keeps_hold others held oracle' table table' state draws holds
-some_hold (suc more) others held oracle' table table' state (inl keeps) holds = keeps_hold others held oracle' table table' state keeps holds
-some_hold (suc more) others held oracle' table table' state (inr drawn) holds =
-    let (number, between, rows, first, rest) = drawn in
-    some_hold more others (with_oracle held between) oracle' rows table' state rest (drawn_holds number others held between table rows state first holds)
-
-pub two_hold : (number : ℕ) (others : List Actor) (held : Held) (oracle' : Option Block) (table table' : Table) (state : State) → DrawsTwo number held.oracle table oracle' table' → Holds others held table state → Holds others (with_oracle held oracle') table' state
-two_hold number others held oracle' table table' state draws holds =
-    let (between, rows, first, second) = draws in
-    drawn_holds (number + 1) others (with_oracle held between) oracle' rows table' state second (drawn_holds number others held between table rows state first holds)
+-- ---- what is left
 
 pub left_by : (others : List Actor) (held : Held) (table : Table) (state : State) → Holds others held table state → IsLeft others held table state
-left_by others held table state holds = record { sound = holds.sound; triples = holds.agrees.triples; last = holds.agrees.last }
+left_by others held table state holds = record { sound = holds.sound; triples = holds.agrees.triples; queries = holds.agrees.queries; last = holds.agrees.last }
 
--- a command that is cut before it changed any triple
+-- whatever of queries is kept and open
+pub left_with : (others : List Actor) (clients : List Busy) (queries more : List (List ℕ × Query)) (before after : List (ℕ × Opened)) (oracle : Option Block) (table : Table) (state : State) →
+    IsLeft others (record { clients = clients; queries = queries; opened = before; oracle = oracle }) table state → IsLeft others (record { clients = clients; queries = more; opened = after; oracle = oracle }) table state
+left_with others clients queries more before after oracle table state left = record { sound = left.sound; triples = left.triples; queries = left.queries; last = left.last }
+
+pub stops_with : (language : Language) (others : List Actor) (state : State) (command : Command) (clients : List Busy) (queries more : List (List ℕ × Query)) (before after : List (ℕ × Opened)) (oracle : Option Block) (table : Table) (stop : Stop) →
+    StopsAt language others state command (record { clients = clients; queries = queries; opened = before; oracle = oracle }) table stop → StopsAt language others state command (record { clients = clients; queries = more; opened = after; oracle = oracle }) table stop
+stops_with language others state command clients queries more before after oracle table stops.Memory (lines, new, cut, left) = (lines, new, cut, left_with others clients queries more before after oracle table new left)
+stops_with language others state command clients queries more before after oracle table stops.Spent (draws, left) = (draws, left_with others clients queries more before after oracle table state left)
+
+-- a command that is cut before it changed any triple or query
 pub cut_short : (language : Language) (others : List Actor) (state : State) (command : Command) (held : Held) (table : Table) → IsLeft others held table state → StopsAt language others state command held table stops.Memory
 cut_short language others state command held table left = ([], state, inl (refl, refl), left)
 
@@ -104,25 +106,10 @@ cut_short language others state command held table left = ([], state, inl (refl,
 pub by_memory : (P : Stop → Type 0) (result : Result Reply Stop) → IsErrAnd result (λ stop. stop ≡ stops.Memory) → P stops.Memory → IfErr result P
 by_memory P result is fact = let (stop, error, same) = err_from_is_err_and result is in subst (λ r. IfErr r P) (sym error) (subst P (sym same) fact)
 
+-- there is no answer then
+pub by_error : (P : Reply → Type 0) (result : Result Reply Stop) → IsErrAnd result (λ stop. stop ≡ stops.Memory) → IfOk result P
+by_error P result is = let (stop, error, same) = err_from_is_err_and result is in subst (λ r. IfOk r P) (sym error) tt
+
 -- and where a stop goes on
 pub by_stop : (P : Stop → Type 0) (result : Result Reply Stop) (stop : Stop) → IsErrAnd result (λ other. other ≡ stop) → P stop → IfErr result P
 by_stop P result stop is fact = let (other, error, same) = err_from_is_err_and result is in subst (λ r. IfErr r P) (sym error) (subst P (sym same) fact)
-
--- ---- as they are drawn
-
-pub keeps_itself : (oracle : Option Block) (table : Table) → Keeps oracle table oracle table
-keeps_itself oracle table = record { same = refl; next = refl; attached = λ some. some }
-
-pub none_drawn : (oracle oracle' : Option Block) (table table' : Table) → Keeps oracle table oracle' table' → DrawsUpTo 2 oracle table oracle' table'
-none_drawn oracle oracle' table table' keeps = inl keeps
-
-pub one_drawn : (number : ℕ) (oracle between oracle' : Option Block) (table rows table' : Table) → IsNumber number oracle table between rows → Keeps between rows oracle' table' → DrawsUpTo 2 oracle table oracle' table'
-one_drawn number oracle between oracle' table rows table' drawn keeps = inr (number, between, rows, drawn, inl keeps)
-
-pub two_drawn : (number second : ℕ) (oracle between oracle' : Option Block) (table rows table' : Table) → IsNumber number oracle table between rows → IsNumber second between rows oracle' table' → DrawsUpTo 2 oracle table oracle' table'
-two_drawn number second oracle between oracle' table rows table' first then = inr (number, between, rows, first, inr (second, oracle', table', then, keeps_itself oracle' table'))
-
-pub draws_two : (number second : ℕ) (oracle between oracle' : Option Block) (table rows table' : Table) → IsNumber number oracle table between rows → IsNumber second between rows oracle' table' → DrawsTwo number oracle table oracle' table'
-draws_two number second oracle between oracle' table rows table' first then =
-    let is = then.is in let next = first.next in
-    (between, rows, first, subst (λ n. IsNumber n between rows oracle' table') (is ∙ next) then)

@@ -6,6 +6,7 @@ pub mod NameLemmas
 pub mod OnceLemmas
 pub mod ReadLemmas
 pub mod RegisterLemmas
+pub mod RegistryLemmas
 pub mod SpentLemmas
 pub mod StatusLemmas
 pub mod StepLemmas

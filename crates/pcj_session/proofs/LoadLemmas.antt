@@ -23,21 +23,27 @@ use Rattle.pcj_fit.specs.Laws as fit
 use Rattle.pcj_fit.specs.Plans.{IsLoad, IsOfLoad, IsTripleOfLoad}
 use Rattle.pcj_fit.specs.Sound.{Sound}
 use Rattle.pcj_fit.proofs.SoundLemmas.{back_is_sound}
-use Rattle.pcj_client.specs.Job.{IsLoadJob, Job}
+use Rattle.pcj_client.specs.Job.{Content, IsJob, Job}
+use Rattle.pcj_client.specs.Job.Content.{Loads}
 use Rattle.pcj_clients.specs.Clients.{actors_of, job_of}
 use Rattle.pcj_clients.specs.declared.busy.Busy.{Busy}
 use Rattle.pcj_jobs.specs.Agrees.{Agrees}
-use Rattle.pcj_jobs.specs.Known.{IsKnownOf}
+use Rattle.pcj_jobs.specs.Known.{IsContentOf, IsKnownOf}
 use Rattle.pcj_jobs.proofs.StateLemmas.{opens_agrees}
 use Rattle.pcj_script.specs.Commands.{Command as commands}
 use Rattle.pcj_model.specs.Job as told
+use Rattle.pcj_model.specs.Job.Content.{Load as LoadsTriples}
 use Rattle.pcj_model.specs.Line.{Line}
 use Rattle.pcj_model.specs.Line.Event.{Busy as Busied, Fault, Loaded, Refused}
 use Rattle.pcj_model.specs.Line.Line.{Client}
 use Rattle.pcj_model.specs.Reply.{Language}
-use Rattle.pcj_model.specs.State.{State, with_load}
+use Rattle.pcj_model.specs.State.{State, opened}
 use Rattle.pcj_session.specs.declared.stop.Stop.TheVariants as stops
+use Rattle.pcj_session.specs.declared.registry.Opened.{Opened}
+use Rattle.pcj_session.specs.Names.{IsOpenFor}
+use Rattle.pcj_session.specs.Registry.{Opens}
 use Rattle.pcj_session.specs.Session.{Held, Holds, StopsAt}
+use Rattle.pcj_session.proofs.NameLemmas.{open_with}
 use Rattle.pcj_session.proofs.DrawLemmas.{Says, keeps_hold, left_by, with_oracle}
 use Rattle.pcj_scan.proofs.ScanLemmas.{Begun, begun}
 use Rattle.pcj_session.proofs.OnceLemmas.{distinct_are_once}
@@ -94,16 +100,19 @@ with_more : (clients : List Busy) (busy : Busy) (others : List Actor) → actors
 with_more [] busy others = refl
 with_more (first ∷ clients) busy others = ap (λ actors. first.job.actor ∷ actors) (with_more clients busy others)
 
-pub opens_holds : (number client : ℕ) (others : List Actor) (held : Held) (oracle' : Option Block) (table table' : Table) (state : State) (job : Job) (clients : List Busy) → IsNumber number held.oracle table oracle' table' → Holds others held table state →
-    IsLoadJob job → job.actor ≡ new_actor number → job_of held.clients client ≡ None → clients ≡ held.clients ++ (record { client = client; job = job }) ∷ [] →
-    Holds others (record { clients = clients; queries = held.queries; oracle = oracle' }) table' (with_load state client number job.triples)
-opens_holds number client others held oracle' table table' state job clients drawn holds load new free is = record {
+-- a client that has none begins with a job, and what is open of it is that of the job
+pub opens_holds : (number client : ℕ) (content : told.Content) (entry : Option Opened) (others : List Actor) (held : Held) (more : List (ℕ × Opened)) (oracle' : Option Block) (table table' : Table) (state : State) (job : Job) (clients : List Busy) →
+    IsNumber number held.oracle table oracle' table' → Holds others held table state → IsJob job → IsContentOf job.content content → job.actor ≡ new_actor number → job_of held.clients client ≡ None →
+    clients ≡ held.clients ++ (record { client = client; job = job }) ∷ [] → Opens client entry held.opened more → IsOpenFor content (told.new_job number content) entry →
+    Holds others (record { clients = clients; queries = held.queries; opened = more; oracle = oracle' }) table' (opened state client number content)
+opens_holds number client content entry others held more oracle' table table' state job clients drawn holds known same new free is opens open_for = record {
   sound = subst (λ actors. Sound (state_of oracle' table' actors)) (sym (ap (λ cs. actors_of cs ++ others) is ∙ with_more held.clients (record { client = client; job = job }) others ∙ ap (λ a. actors_of held.clients ++ (a ∷ others)) new))
       (subst (λ n. Sound (fit.state_of n (row_at table') (actors_of held.clients ++ (new_actor number ∷ others)))) (sym next)
       (back_is_sound (suc number) (row_at table') (actors_of held.clients) (new_actor number) others begins.kept.sound));
-  queries = holds.queries;
-  agrees = subst (λ cs. Agrees oracle' table' cs (with_load state client number job.triples)) (sym is)
-      (opens_agrees number held.clients held.oracle table oracle' table' (actors_of held.clients ++ others) state client job drawn holds.sound load new free holds.agrees);
+  kept = holds.kept;
+  opened = open_with client (Some (told.new_job number content)) entry held.opened more state.jobs opens open_for holds.opened;
+  agrees = subst (λ cs. Agrees oracle' table' cs (opened state client number content)) (sym is)
+      (opens_agrees number held.clients held.oracle table oracle' table' (actors_of held.clients ++ others) state client job content drawn holds.sound known same new free holds.agrees);
 }
   where
     begins : Begun number table table' (actors_of held.clients ++ others)
@@ -143,11 +152,15 @@ load_spent language others client document read triples held oracle' table table
   left_by others (with_oracle held oracle') table' state (keeps_hold others held oracle' table table' state keeps holds),
 )
 
-pub load_opened : (language : Language) (others : List Actor) (client number count : ℕ) (document : List ℕ) (triples : List Triple) (held : Held) (oracle' : Option Block) (table table' : Table) (state : State) (job : Job) (clients : List Busy) (lines : List Line) →
-    lines ≡ Client client (Loaded number count) ∷ [] → count ≡ length triples → Document document number triples → job.triples ≡ triples → IsNumber number held.oracle table oracle' table' → Holds others held table state → IsLoadJob job → job.actor ≡ new_actor number →
-    job_of held.clients client ≡ None → clients ≡ held.clients ++ (record { client = client; job = job }) ∷ [] → Says language others state (commands.Load client document) (record { clients = clients; queries = held.queries; oracle = oracle' }) table' lines
-load_opened language others client number count document triples held oracle' table table' state job clients lines told counted is same drawn holds load new free more = (
-  with_load state client number job.triples,
+load_content : (content : Content) (triples : List Triple) → content ≡ Loads triples → IsContentOf content (LoadsTriples triples)
+load_content content triples is = subst (λ c. IsContentOf c (LoadsTriples triples)) (sym is) refl
+
+pub load_opened : (language : Language) (others : List Actor) (client number count : ℕ) (document : List ℕ) (triples : List Triple) (held : Held) (more : List (ℕ × Opened)) (oracle' : Option Block) (table table' : Table) (state : State) (job : Job) (clients : List Busy) (lines : List Line) →
+    lines ≡ Client client (Loaded number count) ∷ [] → count ≡ length triples → Document document number triples → job.content ≡ Loads triples → IsNumber number held.oracle table oracle' table' → Holds others held table state → IsJob job → job.actor ≡ new_actor number →
+    job_of held.clients client ≡ None → clients ≡ held.clients ++ (record { client = client; job = job }) ∷ [] → Opens client None held.opened more →
+    Says language others state (commands.Load client document) (record { clients = clients; queries = held.queries; opened = more; oracle = oracle' }) table' lines
+load_opened language others client number count document triples held more oracle' table table' state job clients lines told counted is same drawn holds known new free grown opens = (
+  opened state client number (LoadsTriples triples),
   inr (inr (inl (record {
     number = number;
     triples = triples;
@@ -155,9 +168,9 @@ load_opened language others client number count document triples held oracle' ta
     drawn = drawn_above number others held oracle' table table' state drawn holds;
     document = is;
     told = told ∙ ap (λ n. Client client (Loaded number n) ∷ []) counted;
-    opened = ap (with_load state client number) same;
+    opened = refl;
   }))),
-  opens_holds number client others held oracle' table table' state job clients drawn holds load new free more,
+  opens_holds number client (LoadsTriples triples) None others held more oracle' table table' state job clients drawn holds known (load_content job.content triples same) new free grown opens refl,
 )
 
 -- a client with a load in flight is told so

@@ -33,14 +33,16 @@ use Rattle.pcj_session.specs.declared.reply.Reply.TheVariants as replies
 use Rattle.pcj_session.specs.declared.stop.Stop.{Stop}
 use Rattle.pcj_session.specs.declared.stop.Stop.TheVariants as stops
 use Rattle.pcj_session.specs.Language.{IsSparql}
+use Rattle.pcj_rebuild.specs.Laws.{HaveSameLines}
 use Rattle.pcj_session.specs.Lines.{rows_told}
+use Rattle.pcj_session.specs.Names.{HaveOneTree}
 use Rattle.pcj_session.specs.Session.{Held, Holds, IsLeft, StopsAt, TellsFault}
 use Rattle.pcj_session.proofs.DrawLemmas.{Says, keeps_agree, with_oracle}
-use Rattle.pcj_session.proofs.NameLemmas.{is_registered, is_unregistered}
+use Rattle.pcj_session.proofs.NameLemmas.{all_open_beside, none_kept, some_kept}
 
 -- the state beside a reader
 abbrev pub met : State → State
-met state = with_jobs state (all_beside [] state.jobs)
+met state = with_jobs state (all_beside [] [] state.jobs)
 
 -- an oracle whose next number is this one
 abbrev at : ℕ → Option Block
@@ -60,6 +62,7 @@ read_agrees oracle table oracle' table' clients others state reads sound agrees 
     later = record {
       known = agrees.known;
       triples = agrees.triples;
+      queries = agrees.queries;
       last = (let last = agrees.last in omega (arith, last));
       locks = agrees.locks;
       notifications = agrees.notifications;
@@ -74,6 +77,7 @@ read_agrees oracle table oracle' table' clients others state reads sound agrees 
     as_before = record {
       known = stayed.known;
       triples = stayed.triples;
+      queries = stayed.queries;
       last = agrees.last;
       locks = stayed.locks;
       notifications = stayed.notifications;
@@ -92,7 +96,8 @@ pub read_holds : (others : List Actor) (held : Held) (oracle' : Option Block) (t
     Holds others (with_oracle held oracle') table' (met state)
 read_holds others held oracle' table table' state reads keeps holds = record {
   sound = keeps (actors_of held.clients ++ others) holds.sound;
-  queries = holds.queries;
+  kept = holds.kept;
+  opened = all_open_beside [] [] held.opened state.jobs holds.opened;
   agrees = read_agrees held.oracle table oracle' table' held.clients others state reads holds.sound holds.agrees;
 }
 
@@ -101,13 +106,19 @@ pub read_left : (others : List Actor) (held : Held) (oracle' : Option Block) (ta
     IsLeft others (with_oracle held oracle') table' state
 read_left others held oracle' table table' state reads keeps holds =
     let after = read_holds others held oracle' table table' state reads keeps holds in
-    record { sound = after.sound; triples = after.agrees.triples; last = after.agrees.last }
+    record { sound = after.sound; triples = after.agrees.triples; queries = after.agrees.queries; last = after.agrees.last }
 
 -- the rows that are found are those of the language
-pub rows_are : (language : Language) (others : List Actor) (held : Held) (table : Table) (state : State) (text : List ℕ) (query : Query) (rows : List (List ℕ)) → HaveOneList → IsSparql language → Holds others held table state → QueryText text query →
-    FindsLines held.oracle table query rows → rows ≡ language.rows text state.triples
-rows_are language others held table state text query rows one sparql holds of_text finds =
-    one query state.triples rows (language.rows text state.triples) (finds (actors_of held.clients ++ others) state.triples holds.sound holds.agrees.triples) (sparql.answers text query state.triples of_text)
+pub rows_are : (language : Language) (others : List Actor) (held : Held) (table : Table) (state : State) (query : Query) (rows : List (List ℕ)) → HaveOneList → IsSparql language → Holds others held table state →
+    FindsLines held.oracle table query rows → rows ≡ language.rows query state.triples
+rows_are language others held table state query rows one sparql holds finds =
+    one query state.triples rows (language.rows query state.triples) (finds (actors_of held.clients ++ others) state.triples holds.sound holds.agrees.triples) (sparql.answers query state.triples)
+
+-- and those of another query that is stored alike
+rows_alike : (language : Language) (others : List Actor) (held : Held) (table : Table) (state : State) (query other : Query) (rows : List (List ℕ)) → HaveOneList → HaveSameLines → IsSparql language → HaveOneTree query other → Holds others held table state →
+    FindsLines held.oracle table query rows → rows ≡ language.rows other state.triples
+rows_alike language others held table state query other rows one same sparql (tree, is, its) holds finds =
+    one other state.triples rows (language.rows other state.triples) (same query other tree state.triples rows is its (finds (actors_of held.clients ++ others) state.triples holds.sound holds.agrees.triples)) (sparql.answers other state.triples)
 
 -- ---- what is said
 
@@ -115,7 +126,11 @@ pub scan_rows : (language : Language) (others : List Actor) (text : List ℕ) (q
     Reads held.oracle table oracle' table' → KeepsSound held.oracle table oracle' table' → FindsLines held.oracle table query rows → Holds others held table state → Says language others state (commands.Scan text) (with_oracle held oracle') table' (answer_lines rows)
 scan_rows language others text query held oracle' table table' state rows one sparql of_text reads keeps finds holds = (
   met state,
-  inr (inl (record { good = sparql.scans text query of_text; told = ap answer_lines (rows_are language others held table state text query rows one sparql holds of_text finds); met = refl })),
+  inr (inl (record {
+    good = sparql.scans text query of_text;
+    told = ap answer_lines (rows_are language others held table state query rows one sparql holds finds ∙ ap (λ q. language.rows q state.triples) (sym (sparql.reads text query of_text)));
+    met = refl;
+  })),
   read_holds others held oracle' table table' state reads keeps holds,
 )
 
@@ -124,15 +139,15 @@ pub scan_faulted : (language : Language) (others : List Actor) (text : List ℕ)
 scan_faulted language others text query held oracle' table table' state sparql of_text reads keeps holds =
     (met state, inr (inr (record { good = sparql.scans text query of_text; told = refl; met = refl })), read_holds others held oracle' table table' state reads keeps holds)
 
-pub answers_rows : (language : Language) (others : List Actor) (name : List ℕ) (query : Query) (held : Held) (oracle' : Option Block) (table table' : Table) (state : State) (rows : List (List ℕ)) → HaveOneList → IsSparql language → lookup (same_bytes name) held.queries ≡ Some query →
+pub answers_rows : (language : Language) (others : List Actor) (name : List ℕ) (query : Query) (held : Held) (oracle' : Option Block) (table table' : Table) (state : State) (rows : List (List ℕ)) → HaveOneList → HaveSameLines → IsSparql language → lookup (same_bytes name) held.queries ≡ Some query →
     Reads held.oracle table oracle' table' → KeepsSound held.oracle table oracle' table' → FindsLines held.oracle table query rows → Holds others held table state → Says language others state (commands.Answers name) (with_oracle held oracle') table' (answer_lines rows)
-answers_rows language others name query held oracle' table table' state rows one sparql named reads keeps finds holds =
-    let found = is_registered state.queries held.queries name query holds.queries named in (
+answers_rows language others name query held oracle' table table' state rows one same sparql is reads keeps finds holds =
+    let (registration, found, alike) = some_kept held.queries state.queries name query holds.kept is in (
       met state,
       inr (inl (record {
-        registration = found.registration;
-        named = found.named;
-        told = ap answer_lines (rows_are language others held table state found.registration.text query rows one sparql holds found.text finds);
+        registration = registration;
+        named = found;
+        told = ap answer_lines (rows_alike language others held table state query registration.query rows one same sparql alike holds finds);
         met = refl;
       })),
       read_holds others held oracle' table table' state reads keeps holds,
@@ -141,16 +156,16 @@ answers_rows language others name query held oracle' table table' state rows one
 pub answers_faulted : (language : Language) (others : List Actor) (name : List ℕ) (query : Query) (held : Held) (oracle' : Option Block) (table table' : Table) (state : State) → lookup (same_bytes name) held.queries ≡ Some query →
     Reads held.oracle table oracle' table' → KeepsSound held.oracle table oracle' table' → Holds others held table state → Says language others state (commands.Answers name) (with_oracle held oracle') table' (AnswersFault ∷ [])
 answers_faulted language others name query held oracle' table table' state named reads keeps holds =
-    let found = is_registered state.queries held.queries name query holds.queries named in
-    (met state, inr (inr (record { registration = found.registration; named = found.named; told = refl; met = refl })), read_holds others held oracle' table table' state reads keeps holds)
+    let (registration, found, alike) = some_kept held.queries state.queries name query holds.kept named in
+    (met state, inr (inr (record { registration = registration; named = found; told = refl; met = refl })), read_holds others held oracle' table table' state reads keeps holds)
 
 pub answers_unknown : (language : Language) (others : List Actor) (name : List ℕ) (held : Held) (table : Table) (state : State) → lookup (same_bytes name) held.queries ≡ None → Holds others held table state → Says language others state (commands.Answers name) held table (NoQuery name ∷ [])
-answers_unknown language others name held table state none holds = (state, inl (record { unnamed = is_unregistered state.queries held.queries name holds.queries none; told = refl; same = refl }), holds)
+answers_unknown language others name held table state none holds = (state, inl (record { unnamed = none_kept held.queries state.queries name holds.kept none; told = refl; same = refl }), holds)
 
 pub answers_spent : (language : Language) (others : List Actor) (name : List ℕ) (query : Query) (held : Held) (oracle' : Option Block) (table table' : Table) (state : State) → lookup (same_bytes name) held.queries ≡ Some query →
     Reads held.oracle table oracle' table' → KeepsSound held.oracle table oracle' table' → Holds others held table state → StopsAt language others state (commands.Answers name) (with_oracle held oracle') table' stops.Spent
 answers_spent language others name query held oracle' table table' state named reads keeps holds =
-    let found = is_registered state.queries held.queries name query holds.queries named in ((found.registration, found.named), read_left others held oracle' table table' state reads keeps holds)
+    let (registration, found, alike) = some_kept held.queries state.queries name query holds.kept named in ((registration, found), read_left others held oracle' table table' state reads keeps holds)
 
 -- ---- faults
 

@@ -4,7 +4,6 @@ use Rattle.pcj_table.specs.Table.{Table}
 use Rattle.pcj_oracle.specs.declared.block.Block.{Block}
 use Rattle.pcj_txn.specs.declared.error.TxnError.TheVariants as txn_error
 use Rattle.pcj_client.specs.declared.event.JobEvent.TheVariants as does
-use Rattle.pcj_clients.specs.Clients.{is_end}
 use Rattle.pcj_clients.specs.Steps.{AreSteps, AreStepsOf, GoOnUpTo, IsStepOf, Told, all_go_on, goes_on, no_steps, stepped_from, with_told}
 use Rattle.pcj_clients.specs.declared.busy.Busy.{Busy}
 use Rattle.pcj_clients.specs.declared.stepped.Stepped.{Stepped}

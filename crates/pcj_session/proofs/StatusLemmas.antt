@@ -54,10 +54,12 @@ status_answered language others held table state lines (inl told) holds = (
   }),
   record {
     sound = holds.sound;
-    queries = holds.queries;
+    kept = holds.kept;
+    opened = holds.opened;
     agrees = record {
       known = holds.agrees.known;
       triples = holds.agrees.triples;
+      queries = holds.agrees.queries;
       last = holds.agrees.last;
       locks = holds.agrees.locks;
       notifications = holds.agrees.notifications;

@@ -41,22 +41,23 @@ refusal_of error = record { place = error.at; kind = number_of error.kind }
 abbrev pub observed_refusal : Query → Option Refusal
 observed_refusal query = if is_observed query then None else Some (record { place = 0; kind = 2 })
 
--- A text is refused by its fault, and a query of the profile that can't be registered when it is to be. The rows of a query's
--- answer are its printed lines.
+-- A text is refused by its fault, and a query of the profile that can't be registered when it is to be. Else it is read as its
+-- query. The rows of a query's answer are its printed lines.
 pub record IsSparql (language : Language) : Type 0 where
   pub refuses_scan : (text : List ℕ) (error : QueryError) → QueryFault text error → language.scan_refusal text ≡ Some (refusal_of error)
   pub refuses_register : (text : List ℕ) (error : QueryError) → QueryFault text error → language.register_refusal text ≡ Some (refusal_of error)
   pub scans : (text : List ℕ) (query : Query) → QueryText text query → language.scan_refusal text ≡ None
   pub registers : (text : List ℕ) (query : Query) → QueryText text query → language.register_refusal text ≡ observed_refusal query
-  pub answers : (text : List ℕ) (query : Query) (triples : List Triple) → QueryText text query → AreLines query triples (language.rows text triples)
+  pub reads : (text : List ℕ) (query : Query) → QueryText text query → language.query_of text ≡ query
+  pub answers : (query : Query) (triples : List Triple) → AreLines query triples (language.rows query triples)
 
 -- ---- laws
 
 abbrev pub IsThere : Type 0
 IsThere = (language : Language) × IsSparql language
 
--- two such languages refuse each text alike, and answer it alike where it is a query
+-- two such languages refuse each text alike, read it alike where it is a query's, and answer each query alike
 abbrev pub IsOneLanguage : Type 0
-IsOneLanguage = (language other : Language) (text : List ℕ) (triples : List Triple) → IsSparql language → IsSparql other →
+IsOneLanguage = (language other : Language) (text : List ℕ) (query : Query) (triples : List Triple) → IsSparql language → IsSparql other →
     (language.scan_refusal text ≡ other.scan_refusal text) × (language.register_refusal text ≡ other.register_refusal text)
-    × (language.scan_refusal text ≡ None → language.rows text triples ≡ other.rows text triples)
+    × (language.scan_refusal text ≡ None → language.query_of text ≡ other.query_of text) × (language.rows query triples ≡ other.rows query triples)

@@ -1,5 +1,6 @@
 pub mod Draws
+pub mod Registry
+pub mod Names
 pub mod Language
 pub mod Lines
-pub mod Names
 pub mod Session

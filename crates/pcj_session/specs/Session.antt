@@ -10,7 +10,6 @@ use Rattle.pcj_actor.specs.StepLaws.{state_of}
 use Rattle.pcj_fit.specs.Sound.{Sound}
 use Rattle.pcj_fit.specs.Triples.{HasTriples}
 use Rattle.pcj_algebra.specs.declared.query.Query.{Query}
-use Rattle.pcj_sparql.specs.Query.{QueryText}
 use Rattle.pcj_clients.specs.Clients.{actors_of}
 use Rattle.pcj_clients.specs.declared.busy.Busy.{Busy}
 use Rattle.pcj_script.specs.Commands.{Command}
@@ -20,45 +19,43 @@ use Rattle.pcj_model.specs.Line.{Line}
 use Rattle.pcj_model.specs.Line.Line.{Status, StatusFault}
 use Rattle.pcj_model.specs.Reply.{Language, Reply as MayReply}
 use Rattle.pcj_model.specs.Run.{Cut}
-use Rattle.pcj_model.specs.State.{Registration, State}
+use Rattle.pcj_model.specs.State.{State}
 use Rattle.pcj_pending.specs.Pending.{locks_of, notifications_of}
-use Rattle.pcj_jobs.specs.Agrees.{Agrees}
+use Rattle.pcj_jobs.specs.Agrees.{Agrees, HasRegistered}
 use Rattle.pcj_session.specs.declared.reply.Reply.{Reply}
 use Rattle.pcj_session.specs.declared.stop.Stop.{Stop}
 use Rattle.pcj_session.specs.declared.stop.Stop.TheVariants.{Memory, Spent}
+use Rattle.pcj_session.specs.declared.registry.Opened.{Opened}
 use Rattle.pcj_session.specs.Lines.{lines_of}
+use Rattle.pcj_session.specs.Names.{AreKept, AreOpen}
 
--- The clients with a job in flight, the registered queries by their names, in the order of their numbers, and the oracle.
+-- The clients with a job in flight, the registered queries by their names, what clients register, and the oracle.
 pub record Held : Type 0 where
   pub clients : List Busy
   pub queries : List (List ℕ × Query)
+  pub opened : List (ℕ × Opened)
   pub oracle : Option Block
 
--- before the first command
-abbrev pub nothing_held : Held
-nothing_held = record { clients = []; queries = []; oracle = None }
+-- before the first command, with these queries
+abbrev pub held_first : List (List ℕ × Query) → Held
+held_first queries = record { clients = []; queries = queries; opened = []; oracle = None }
 
 -- ---- what is true of it
 
--- one query for each registration: that of its text, under its name
-abbrev pub AreQueriesOf : List Registration → List (List ℕ × Query) → Type 0
-AreQueriesOf [] [] = Unit {0}
-AreQueriesOf [] (entry ∷ entries) = ⊥
-AreQueriesOf (registration ∷ registrations) [] = ⊥
-AreQueriesOf (registration ∷ registrations) (entry ∷ entries) =
-    (entry.0 ≡ registration.name) × QueryText registration.text entry.1 × AreQueriesOf registrations entries
-
 -- The table is as the state says, whoever else is at work on it: all who are at work keep it sound, the queries are those that
--- are registered, and what is known of the table and of the loads in flight is true.
+-- are registered, and what is known of the table and of the jobs in flight is true.
 pub record Holds (others : List Actor) (held : Held) (table : Table) (state : State) : Type 0 where
   pub sound : Sound (state_of held.oracle table (actors_of held.clients ++ others))
-  pub queries : AreQueriesOf state.queries held.queries
+  pub kept : AreKept held.queries state.queries
+  pub opened : AreOpen held.opened state.jobs
   pub agrees : Agrees held.oracle table held.clients state
 
--- the table is sound with all who are at work, has the triples of the state, and goes on above each number that was told
+-- The table is sound with all who are at work, has the triples and the queries of the state, and goes on above each number that
+-- was told.
 pub record IsLeft (others : List Actor) (held : Held) (table : Table) (state : State) : Type 0 where
   pub sound : Sound (state_of held.oracle table (actors_of held.clients ++ others))
   pub triples : HasTriples (row_at table) state.triples
+  pub queries : HasRegistered (row_at table) state.queries
   pub last : state.last < next_number held.oracle table
 
 -- ---- answers
@@ -68,7 +65,7 @@ abbrev pub Answers : Language → List Actor → State → Command → Held → 
 Answers language others state command held table reply =
     (new : State) × MayReply language state command (lines_of reply) new × Holds others held table new
 
--- It was cut for want of memory; or 2^48 would be drawn for it, which changes no triple.
+-- It was cut for want of memory; or 2^48 would be drawn for it, which changes no triple and no query.
 abbrev pub StopsAt : Language → List Actor → State → Command → Held → Table → Stop → Type 0
 StopsAt language others state command held table Memory =
     (lines : List Line) × (new : State) × Cut state command lines new × IsLeft others held table new

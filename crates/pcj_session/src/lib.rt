@@ -5,9 +5,9 @@
 //! (`sparql_is_a_language`).
 #![tactic(auto)]
 
-mod draw;
 mod laws;
 mod observed;
+mod registry;
 mod reply;
 mod session;
 mod stop;

@@ -1,7 +1,5 @@
 ghost use Rattle.std.specs.List.{list_any};
-ghost use Rattle.std.specs.Map.{lookup};
-ghost use Rattle.std.specs.Prelude.{◌≡◌, ◌≢◌, ◌≤◌, ◌<◌, ◌^◌, ℕ, true, false, List, [], ◌∷◌, ◌++◌, None, IfOk, IfErr, IsErrOf, OnOk};
-ghost use Rattle.pcj_term.specs.Order.{same_bytes};
+ghost use Rattle.std.specs.Prelude.{◌≡◌, ◌≢◌, ◌≤◌, ◌<◌, ◌+◌, ◌^◌, ℕ, true, false, List, [], ◌∷◌, None, IfOk, IfErr, IsErrOf, OnOk};
 ghost use Rattle.pcj_table.specs.Table.{Table, row_at};
 ghost use Rattle.pcj_ntriples.specs.Document.{Document};
 ghost use Rattle.pcj_oracle.specs.Clock.{IsClock};
@@ -18,41 +16,45 @@ ghost use Rattle.pcj_model.specs.Line.Line.{Client};
 ghost use Rattle.pcj_model.specs.Reply.{Language};
 ghost use Rattle.pcj_model.specs.State.{State};
 ghost use Rattle.pcj_sparql.specs.Query.{QueryText, Refuses};
+ghost use Rattle.pcj_tree.specs.Laws.{HasStorableTree};
+ghost use Rattle.pcj_tree.specs.Tree.{size_of};
 ghost use Rattle.pcj_session.specs.declared.stop.Stop.TheVariants as stops;
 ghost use Rattle.pcj_session.specs.Draws.{AreSpent};
 ghost use Rattle.pcj_session.specs.Language.{IsSparql};
 ghost use Rattle.pcj_session.specs.Lines.{lines_of, rows_told};
-ghost use Rattle.pcj_session.specs.Names.{NamesQuery, named_event};
-ghost use Rattle.pcj_session.specs.Session.{Answers, Holds, StopsAt, TellsFault, TellsPending, nothing_held};
+ghost use Rattle.pcj_session.specs.Registry.{AreRebuilt, AreRegistrations};
+ghost use Rattle.pcj_session.specs.Session.{Answers, Holds, StopsAt, TellsFault, TellsPending, held_first};
 
-use crate::draw::draw_two;
 use crate::observed::is_observed;
+use crate::registry::Registry;
 use crate::reply::Reply;
 use crate::stop::Stop;
-use indexmap::IndexMap;
 use pcj_algebra::Query;
 use pcj_answers::lines_are_one_list;
-use pcj_client::LoadJob;
+use pcj_client::{Job, LoadJob, RegisterJob};
 use pcj_clients::{Clients, StepsEnd};
 use pcj_model::{Event, Line};
 use pcj_ntriples::{NtRefusal, nt_number, read_document};
 use pcj_oracle::{Oracle, OracleError};
 use pcj_pending::pending;
+use pcj_rebuild::trees_have_one_query;
+use pcj_registrations::Registration;
 use pcj_scan::{ScanError, scan};
 use pcj_script::{Command, Crashed};
 use pcj_sparql::{QueryRefusal, query_number, read_query};
+use pcj_stored::queries_can_be_stored;
 use pcj_table::{RowTable, TableError};
 use pcj_term::{Bytes, Items, Memory, Triple};
 use sqlite_items::Boxed;
 use std::alloc::Global;
 use std::marker::Model;
 
-/// The clients with a job in flight, the registered queries, and the oracle that grants the run's numbers. The triples are the
-/// table's.
+/// The clients with a job in flight, the registered queries, and the oracle that grants the run's numbers. The triples and the
+/// registrations are the table's: a query is kept here as it was read off its tree, or off the text that was registered.
 #[derive(Drop)]
 pub struct Session {
     clients: Clients,
-    queries: IndexMap<Bytes, Boxed<Query>>,
+    registry: Registry,
     oracle: Oracle,
     /// The number that the next load will likely have.
     expected: u64,
@@ -60,27 +62,30 @@ pub struct Session {
 
 impl Model for Session {
     ghost use Rattle.pcj_algebra.specs.contracts.pattern.Pattern as pattern;
+    ghost use Rattle.pcj_expr.specs.contracts.expr.Expr as expr;
     ghost use Rattle.std.specs.Coded.{codes};
     ghost use Rattle.pcj_session.specs.Session.{Held};
 
     ghost Value = { Held };
 
-    ghost coded = { Prim.hlevel (codes, pattern.the_row.coded) };
+    ghost coded = { Prim.hlevel (codes, pattern.the_row.coded, expr.the_row.coded) };
 
-    ghost view = { λ s. record { clients = s.clients; queries = s.queries.entries; oracle = s.oracle } };
+    ghost view = { λ s. record { clients = s.clients; queries = s.registry.queries; opened = s.registry.opened; oracle = s.oracle } };
 }
 
 impl Session {
-    /// A session before its first command.
-    pub fn new(alloc: Global) -> Session
-        ensures { result ≡ nothing_held }
+    /// A session before its first command, over a table that has these registrations. `Memory` comes where there is none for
+    /// their queries.
+    pub fn new(alloc: Global, registrations: &[Registration]) -> Result<Session, Memory>
+        requires { AreRegistrations registrations.now }
+        ensures { IfOk result (λ session. AreRebuilt registrations.now session.queries × (session ≡ held_first session.queries)) }
     {
-        Session {
+        Ok(Session {
             clients: Clients::new(alloc),
-            queries: IndexMap::new(alloc),
+            registry: Registry::new(alloc, registrations)?,
             oracle: Oracle::new(alloc),
             expected: 1,
-        }
+        })
     }
 
     /// Carries out a command of a script, and gives what is to be said of it. `Memory` comes where there is none for the
@@ -185,8 +190,9 @@ impl Session {
         let triples = read_under(alloc, document, triples, expected, number)?;
         let count = triples.len();
         self.expected = number + 2;
+        self.registry.close(client);
         self.clients
-            .open(client, LoadJob::new(alloc, number, triples))?;
+            .open(client, Job::load(LoadJob::new(alloc, number, triples)))?;
         let event = Event::Loaded {
             number,
             triples: count,
@@ -194,7 +200,7 @@ impl Session {
         Ok(Reply::One(Line::Client { client, event }))
     }
 
-    /// Registers the query of a text under a name, if it is the text of one.
+    /// Begins to register the query of a text under a name, if it is the text of one.
     fn register<'a, T: RowTable>(
         &mut self,
         alloc: Global,
@@ -217,6 +223,7 @@ impl Session {
             let event = Event::Busy;
             return Ok(Reply::One(Line::Client { client, event }));
         }
+        queries_can_be_stored();
         match read_boxed(alloc, text) {
             Err(QueryRefusal::Memory) => Err(Stop::Memory),
             Err(QueryRefusal::Refused(error)) => {
@@ -229,7 +236,7 @@ impl Session {
         }
     }
 
-    /// Registers a query, where it has observers and no other one has its name.
+    /// Begins to register a query, where it has observers.
     fn register_query<'a, T: RowTable>(
         &mut self,
         alloc: Global,
@@ -240,6 +247,8 @@ impl Session {
     ) -> Result<Reply<'a>, Stop>
         requires clock { IsClock self.old.oracle (T.rows table.old) }
         requires free { job_of self.old.clients client ≡ None }
+        requires storable { HasStorableTree query }
+        requires few { size_of query.pattern + 1 ≤ 128 }
         ensures answered { (language : Language) (others : List Actor) (state : State) (text : List ℕ) → IsSparql language → QueryText text query → Holds others self.old (T.rows table.old) state →
             IfOk result (Answers language others state (Register client name.now text) self.new (T.rows table.new)) }
         ensures stopped { (language : Language) (others : List Actor) (state : State) (text : List ℕ) → IsSparql language → QueryText text query → Holds others self.old (T.rows table.old) state →
@@ -253,16 +262,21 @@ impl Session {
             let event = Event::Refused { place: 0, kind: 2 };
             return Ok(Reply::One(Line::Client { client, event }));
         }
-        let Some(number) = draw_two(&mut self.oracle, table)? else {
-            return Ok(fault_of(client));
+        let number = match self.oracle.draw(table) {
+            Ok(number) => number,
+            Err(OracleError::Failed) => return Ok(fault_of(client)),
+            Err(OracleError::Memory) => return Err(Stop::Memory),
+            Err(OracleError::Spent) => return Err(Stop::Spent),
         };
-        let kept = keep_query(alloc, &mut self.queries, name, query)?;
-        let registered = Event::Registered { number, name };
-        let named = named_event(number, kept);
-        Ok(both_of(client, registered, named))
+        let job = RegisterJob::new(alloc, number, Bytes::from_slice(alloc, name)?, query.get())?;
+        self.registry
+            .open(client, Bytes::from_slice(alloc, name)?, query)?;
+        self.clients.open(client, Job::register(job))?;
+        let event = Event::Registered { number, name };
+        Ok(Reply::One(Line::Client { client, event }))
     }
 
-    /// Makes steps of a client's load.
+    /// Makes steps of a client's job. A registration that they commit is kept from then on.
     fn step<'a, T: RowTable>(
         &mut self,
         table: &mut T,
@@ -283,11 +297,13 @@ impl Session {
         if !self.clients.is_busy(client) {
             return Ok(both_of(client, Event::Nothing, Event::Steps(0)));
         }
+        self.registry.reserve()?;
         let most = u64::from(count);
         let stepped = self.clients.steps(client, most, table, &mut self.oracle)?;
         if is_spent(stepped.end) {
             return Err(Stop::Spent);
         }
+        self.registry.keep(client, stepped.commit);
         Ok(Reply::Steps { client, stepped })
     }
 
@@ -334,11 +350,12 @@ impl Session {
         ensures fault { IfOk result (TellsFault (T.failures table.old) (T.failures table.new)) }
     {
         lines_are_one_list();
+        trees_have_one_query();
         let key = Bytes::from_slice(alloc, name)?;
-        match self.queries.get(&key) {
+        match self.registry.named(&key) {
             None => Ok(Reply::One(Line::NoQuery(name))),
             Some(query) => {
-                let rows = scan(alloc, query.get(), table, &mut self.oracle);
+                let rows = scan(alloc, query, table, &mut self.oracle);
                 rows_reply(rows, Line::AnswersFault)
             }
         }
@@ -456,54 +473,6 @@ fn read_boxed(alloc: Global, text: &[u8]) -> Result<Boxed<Query>, QueryRefusal>
     match Boxed::new(alloc, query) {
         Ok(query) => Ok(query),
         Err(_) => Err(QueryRefusal::Memory),
-    }
-}
-
-/// Whether a query was registered, or another one has its name.
-#[derive(Clone, Copy)]
-enum Kept {
-    New,
-    Taken,
-}
-
-/// Registers a query under a name, if no query has it.
-fn keep_query(
-    alloc: Global,
-    queries: &mut IndexMap<Bytes, Boxed<Query>>,
-    name: &[u8],
-    query: Boxed<Query>,
-) -> Result<Kept, Memory>
-    ensures { IfOk result (NamesQuery name.now query queries.old.entries queries.new.entries) }
-{
-    let name = Bytes::from_slice(alloc, name)?;
-    if queries.contains_key(&name) {
-        return Ok(Kept::Taken);
-    }
-    insert_query(queries, name, query)?;
-    Ok(Kept::New)
-}
-
-/// Adds a query under a name that no query has.
-fn insert_query(
-    queries: &mut IndexMap<Bytes, Boxed<Query>>,
-    name: Bytes,
-    query: Boxed<Query>,
-) -> Result<(), Memory>
-    requires { lookup (same_bytes name) queries.old.entries ≡ None }
-    ensures { OnOk result (queries.new.entries ≡ queries.old.entries ++ (name, query) ∷ []) }
-{
-    queries.insert(name, query)?;
-    Ok(())
-}
-
-/// What is told of a query's name.
-fn named_event<'a>(number: u64, kept: Kept) -> Event<'a>
-    requires { number < 2 ^ 48 }
-    ensures { event_of result ≡ named_event number kept }
-{
-    match kept {
-        Kept::New => Event::Committed(number + 1),
-        Kept::Taken => Event::Taken,
     }
 }
 
