@@ -1,19 +1,10 @@
 -- What a command leaves of a table, however it ends.
-use Rattle.std.proofs.Common.{◌≡◌, ◌≤◌, ◌<◌, ◌-◌, ℕ, Bool, true, false, ◌&&◌, ◌==◌, List, [], ◌∷◌, ◌++◌, None, Option, Result, IfErr, IsErrAnd, inl, inr, refl, ap, sym, subst, ◌∙◌, arith}
-use Rattle.std.proofs.lemmas.Bool.{eqb-true}
-use Rattle.pcj_term.specs.declared.triple.Triple.{Triple}
+use Rattle.std.proofs.Common.{◌≡◌, ◌≤◌, ◌<◌, ◌-◌, ℕ, List, [], ◌++◌, Option, Result, IfErr, IsErrAnd, inl, inr, refl, sym, subst, arith}
 use Rattle.pcj_table.specs.Table.{Table, row_at}
 use Rattle.pcj_oracle.specs.Clock.{IsClock, next_number, stored_number}
-use Rattle.pcj_oracle.specs.declared.block.Block.{Block}
-use Rattle.pcj_moves.specs.Actors.{Actor}
-use Rattle.pcj_actor.specs.StepLaws.{state_of}
-use Rattle.pcj_fit.specs.Sound.{Sound}
-use Rattle.pcj_fit.specs.Triples.{HasTriples}
-use Rattle.pcj_fit.proofs.SoundLemmas.{fit_grows, fit_is_sound, sound_is_fit}
-use Rattle.pcj_pending.specs.Pending.{IsQuiet, locks_of, notifications_of}
+use Rattle.pcj_fit.proofs.SoundLemmas.{fit_grows, sound_is_fit}
 use Rattle.pcj_clients.specs.Clients.{actors_of}
-use Rattle.pcj_jobs.specs.Agrees.{Agrees}
-use Rattle.pcj_model.specs.State.{State, start_state}
+use Rattle.pcj_model.specs.State.{State}
 use Rattle.std.proofs.lemmas.Result.{err_from_is_err_and}
 use Rattle.pcj_io.specs.declared.sink.SinkError.{SinkError}
 use Rattle.pcj_io.specs.declared.sink.SinkError.TheVariants as sinks
@@ -26,14 +17,13 @@ use Rattle.pcj_session.specs.declared.reply.Reply.{Reply}
 use Rattle.pcj_session.specs.declared.stop.Stop.{Stop as SessionStop}
 use Rattle.pcj_session.specs.declared.stop.Stop.TheVariants as sessions
 use Rattle.pcj_session.specs.Lines.{lines_of}
-use Rattle.pcj_session.specs.Session.{Answers, Held, Holds, IsLeft, StopsAt, nothing_held}
+use Rattle.pcj_session.specs.Session.{Answers, Held, Holds, IsLeft, StopsAt}
 use Rattle.pcj_replay.specs.declared.stop.Stop.{Stop}
 use Rattle.pcj_replay.specs.declared.stop.Stop.TheVariants as stops
 use Rattle.pcj_replay.specs.Answer.{StopsAnswer, WritesAnswer}
 use Rattle.pcj_replay.specs.Stop.{session_stop, sink_stop}
 use Rattle.pcj_session.proofs.CrashLemmas.{lost_clock, lost_later}
-use Rattle.pcj_replay.specs.Entry.{IsLeftWith, IsOpen, start_over}
-use Rattle.pcj_replay.specs.Runs.{Begins}
+use Rattle.pcj_replay.specs.Entry.{IsLeftWith}
 
 pub is_left : (held : Held) (table : Table) (state : State) → IsClock held.oracle table → IsLeft [] held table state → IsLeftWith table state
 is_left held table state clock left = record {
@@ -43,38 +33,17 @@ is_left held table state clock left = record {
         (sound_is_fit (next_number held.oracle table) (row_at table) (actors_of held.clients ++ []) left.sound);
   };
   triples = left.triples;
+  queries = left.queries;
   last = let last = left.last in let above = lost_later held.oracle table clock in omega (arith, last, above);
 }
 
 pub holds_left : (held : Held) (table : Table) (state : State) → IsClock held.oracle table → Holds [] held table state → IsLeftWith table state
-holds_left held table state clock holds = is_left held table state clock (record { sound = holds.sound; triples = holds.agrees.triples; last = holds.agrees.last })
+holds_left held table state clock holds = is_left held table state clock (record { sound = holds.sound; triples = holds.agrees.triples; queries = holds.agrees.queries; last = holds.agrees.last })
 
 -- ---- before the first command
 
 pub below_first : (first : ℕ) → 1 ≤ first → first - 1 < first
 below_first first some = omega (arith, some)
-
-is_zero : (n : ℕ) → n == 0 ≡ true → n ≡ 0
-is_zero n e = eqb-true n 0 e
-
-both : (a b : Bool) → a && b ≡ true → (a ≡ true) × (b ≡ true)
-both true b e = (refl, e)
-both false b e = absurd cc
-
-pub holds_first : (table : Table) (start : State) → IsOpen table → Begins start table → Holds [] nothing_held table start
-holds_first table start ready (triples, has, is) = subst (Holds [] nothing_held table) (sym is) (record {
-  sound = fit_is_sound (stored_number table) (row_at table) ready.fit;
-  queries = tt;
-  agrees = record {
-    known = record { apart = refl; each = λ client. tt };
-    triples = has;
-    last = below_first (stored_number table) ready.clock.first;
-    locks = omega arith;
-    notifications = omega arith;
-    idle = is_zero (notifications_of table);
-    quiet = λ e. let known = both (notifications_of table == 0) (locks_of table == 0) e in record { locks = is_zero (locks_of table) known.1; notifications = is_zero (notifications_of table) known.0 };
-  };
-})
 
 -- ---- how a command stops
 

@@ -1,16 +1,13 @@
 -- What was read of a script, as lines and commands.
-use Rattle.std.proofs.Common.{◌≡◌, ◌⊎◌, ◌≤◌, ◌<◌, ℕ, suc, Bool, true, false, List, [], ◌++◌, length, take, Option, Some, None, inl, inr, refl, ap, sym, subst, ◌∙◌, arith, append-nil, length-append}
-use Rattle.std.specs.Prelude.{nat_lt}
-use Rattle.std.proofs.lemmas.List.{take-append-le}
+use Rattle.std.proofs.Common.{◌≡◌, ◌⊎◌, ◌≤◌, ◌<◌, ℕ, suc, Bool, true, false, List, [], ◌++◌, length, take, Option, Some, None, inl, inr, refl, ap, sym, subst, ◌∙◌, arith, append-nil}
 use Rattle.std.proofs.lemmas.Bool.Decides.{leb_tells}
 use Rattle.pcj_io.specs.Source.{Consumes, EndsWhereNothingIsLeft}
-use Rattle.pcj_script.specs.Commands.{Command}
-use Rattle.pcj_script.specs.Lines.{Line, lines_given}
-use Rattle.pcj_script.specs.Script.{Ending, IsRead, Spells, Stop, is_too_long, readable_lines, script_limit, stop_at}
+use Rattle.pcj_script.specs.Lines.{lines_given}
+use Rattle.pcj_script.specs.Script.{is_too_long, readable_lines, script_limit, stop_at}
 use Rattle.pcj_replay.specs.declared.input.Input.{Input}
 use Rattle.pcj_replay.specs.declared.input.InputEnd.{InputEnd}
 use Rattle.pcj_replay.specs.declared.input.InputEnd.TheVariants.{AtEnd, AtLimit, AtFault}
-use Rattle.pcj_replay.specs.Input.{HoldsUpTo, IsFrontOf, IsReadFrom, is_ended, lines_up_to, stop_of}
+use Rattle.pcj_replay.specs.Input.{HoldsUpTo, IsFrontOf, IsReadFrom, lines_up_to, stop_of}
 
 -- what a source gave so far, with its count of faults
 pub record HasGiven (left now : Option (List ℕ)) (before after : ℕ) (bytes : List ℕ) : Type 0 where

@@ -1,5 +1,6 @@
 pub mod AnswerLemmas
 pub mod EmptyTable
+pub mod EntryLemmas
 pub mod InputLemmas
 pub mod RunLemmas
 pub mod ScriptLemmas

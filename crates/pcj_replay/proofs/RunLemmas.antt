@@ -1,7 +1,7 @@
 -- A run that goes on by a command, or ends.
-use Rattle.std.proofs.Common.{◌≡◌, ◌⊎◌, ◌≤◌, ◌<◌, ◌+◌, ◌^◌, ℕ, Bool, true, false, List, [], ◌∷◌, ◌++◌, length, drop, Option, Some, None, inl, inr, refl, ap, sym, subst, ◌∙◌, arith, append-nil, append_assoc}
+use Rattle.std.proofs.Common.{◌≡◌, ◌⊎◌, ◌≤◌, ◌+◌, ℕ, Bool, true, false, List, [], ◌∷◌, ◌++◌, length, drop, Option, Some, None, inl, inr, refl, ap, sym, subst, ◌∙◌, append-nil, append_assoc}
 use Rattle.std.proofs.lemmas.List.Concat.{flat_map-append}
-use Rattle.pcj_io.specs.Sink.{Appends, AppendsPrefix}
+use Rattle.pcj_io.specs.Sink.{Appends}
 use Rattle.pcj_io.proofs.Appended.{Appends-nil, Appends-append}
 use Rattle.pcj_io.specs.Faults.{Rose}
 use Rattle.pcj_io.proofs.Causes.{Rose-since}
@@ -12,12 +12,11 @@ use Rattle.pcj_oracle.specs.Clock.{IsClock, stored_number}
 use Rattle.pcj_lines.specs.Lines.{ended}
 use Rattle.pcj_script.specs.declared.error.ScriptError.{ScriptError}
 use Rattle.pcj_script.specs.declared.error.ScriptKind.{ScriptKind}
-use Rattle.pcj_script.specs.declared.error.ScriptKind.TheVariants.{MissingEnd, TooMuch}
 use Rattle.pcj_script.specs.Commands.{Command}
 use Rattle.pcj_script.specs.Front.{HasFront}
 use Rattle.pcj_script.specs.Front.Front.{NoLine, Skipped, Whole, Open, Refused as IsRefused}
 use Rattle.pcj_script.specs.Lines.{IsUsed, Line, lines_given}
-use Rattle.pcj_script.specs.Script.{Ending as ScriptEnding, Spells, Stop, stop_at}
+use Rattle.pcj_script.specs.Script.{Ending as ScriptEnding, Spells, stop_at}
 use Rattle.pcj_script.proofs.ScriptLaws.{some_reading}
 use Rattle.pcj_script.specs.Script.Ending.{End, RefusedAt, CutOff}
 use Rattle.pcj_script.specs.Told.{RefusesLine}
@@ -29,11 +28,13 @@ use Rattle.pcj_model.proofs.EndingLaws.{ends_stand}
 use Rattle.pcj_model.specs.Line.{Line as ALine, line_text, printed}
 use Rattle.pcj_model.specs.Line.Line.{Script, Spent as SaysSpent}
 use Rattle.pcj_model.specs.Reply.{Language, Reply}
-use Rattle.pcj_model.specs.Run.{Run, all_lines}
+use Rattle.pcj_model.specs.Run.{all_lines}
+use Rattle.pcj_model.specs.Queries.{Registration}
 use Rattle.pcj_model.specs.State.{State}
+use Rattle.pcj_jobs.specs.Agrees.{HasRegistered}
 use Rattle.pcj_model.proofs.RunLaws.{runs_go_on}
 use Rattle.pcj_session.specs.Language.{IsSparql, IsThere}
-use Rattle.pcj_session.specs.Session.{Held, Holds, nothing_held}
+use Rattle.pcj_session.specs.Session.{Held, Holds}
 use Rattle.pcj_replay.specs.declared.input.InputEnd.{InputEnd}
 use Rattle.pcj_replay.specs.declared.input.InputEnd.TheVariants.{AtEnd, AtLimit, AtFault}
 use Rattle.pcj_replay.specs.declared.stop.Stop.{Stop as Stopped}
@@ -42,8 +43,9 @@ use Rattle.pcj_replay.specs.Answer.{StopsAnswer, WritesAnswer}
 use Rattle.pcj_replay.specs.Entry.{IsLeftWith, IsOpen, start_over}
 use Rattle.pcj_replay.specs.declared.input.Input.{Input}
 use Rattle.pcj_replay.specs.Input.{IsFrontOf, IsReadFrom, is_ended, lines_up_to, stop_of}
-use Rattle.pcj_replay.specs.Runs.{Begins, Closes, EndsBehind, Finishes, IsEndingOf, IsReadEnd, Ran, Replays, RunsTo, StopsIn, TellsSinkFault}
-use Rattle.pcj_replay.proofs.AnswerLemmas.{below_first, holds_first, holds_left}
+use Rattle.pcj_replay.specs.Runs.{Begins, Closes, EndsBehind, Finishes, HoldsFirst, IsEndingOf, IsReadEnd, Ran, Replays, RunsTo, StopsIn, TellsSinkFault}
+use Rattle.pcj_replay.proofs.AnswerLemmas.{below_first, holds_left}
+use Rattle.pcj_replay.proofs.EntryLemmas.{some_queries}
 use Rattle.pcj_replay.proofs.InputLemmas.{reads_as, whole_is, whole_of}
 use Rattle.pcj_replay.proofs.ScriptLemmas.{goes_on_with}
 use Rattle.pcj_fit.proofs.TableTriples.{table_triples}
@@ -95,8 +97,8 @@ Goes end bytes before old new held table line rest =
     (language : Language) (start : State) (commands : List Command) (script : ScriptEnding) → IsSparql language → Begins start before →
     Spells (stop_of end) 1 (lines_up_to end bytes) commands script → SoFar language start end commands script old new held table line rest
 
-pub first_goes : (end : InputEnd) (bytes : List ℕ) (table : Table) (taken : Option (List ℕ)) → IsOpen table → Goes end bytes table taken taken nothing_held table 1 bytes
-first_goes end bytes table taken ready language start commands script sparql begins spells = record {
+pub first_goes : (end : InputEnd) (bytes : List ℕ) (held : Held) (table : Table) (taken : Option (List ℕ)) → HoldsFirst held table → Goes end bytes table taken taken held table 1 bytes
+first_goes end bytes held table taken first language start commands script sparql begins spells = record {
   done = [];
   later = commands;
   is = refl;
@@ -105,7 +107,7 @@ first_goes end bytes table taken ready language start commands script sparql beg
   mid = start;
   told = tells_nothing language start;
   written = Appends-nil taken;
-  holds = holds_first table start ready begins;
+  holds = first start begins;
 }
 
 behind : (end : InputEnd) (count used : ℕ) (rest : List ℕ) → IsUsed (lines_up_to end rest) count used → lines_up_to end (drop used rest) ≡ drop count (lines_up_to end rest)
@@ -393,9 +395,9 @@ behind_kind AtFault line count ending ends = subst (IsReadEnd AtFault) (sym ends
 -- ---- whole runs
 
 -- nothing was read or written: the table couldn't be looked at, or there was no memory
-pub stops_at_entry : (source taken : Option (List ℕ)) (table table' : Table) (language : Language) (triples : List Triple) → IsOpen table → table' ≡ table → HasTriples (row_at table) triples →
-    Replays source taken taken table table' language triples 7 × Replays source taken taken table table' language triples 5
-stops_at_entry source taken table table' language triples ready same has =
+pub stops_at_entry : (source taken : Option (List ℕ)) (table table' : Table) (language : Language) (triples : List Triple) (queries : List Registration) → IsOpen table → table' ≡ table → HasTriples (row_at table) triples → HasRegistered (row_at table) queries →
+    Replays source taken taken table table' language triples queries 7 × Replays source taken taken table table' language triples queries 5
+stops_at_entry source taken table table' language triples queries ready same has registered =
     let (commands, script, read) = some_reading true (whole_of source) in (
       record {
         ending = endings.TableFault;
@@ -405,10 +407,10 @@ stops_at_entry source taken table table' language triples ready same has =
         front = whole_is source;
         whole = λ no. absurd (let clash = no in cc);
         text = [];
-        end = start_over triples table;
+        end = start_over triples queries table;
         ends = record { commands = commands; script = script; read = read; ends = (refl, refl) };
         written = Appends-nil taken;
-        left = subst (λ t. IsLeftWith t (start_over triples table)) (sym same) (record { ready = ready; triples = has; last = below_first (stored_number table) ready.clock.first });
+        left = left;
       },
       record {
         ending = endings.OutOfMemory;
@@ -418,12 +420,15 @@ stops_at_entry source taken table table' language triples ready same has =
         front = whole_is source;
         whole = λ no. absurd (let clash = no in cc);
         text = [];
-        end = start_over triples table;
-        ends = record { commands = commands; script = script; read = read; ends = inl (record { before = []; after = commands; split = refl; told = tells_nothing language (start_over triples table) }) };
+        end = start_over triples queries table;
+        ends = record { commands = commands; script = script; read = read; ends = inl (record { before = []; after = commands; split = refl; told = tells_nothing language (start_over triples queries table) }) };
         written = Appends-nil taken;
-        left = subst (λ t. IsLeftWith t (start_over triples table)) (sym same) (record { ready = ready; triples = has; last = below_first (stored_number table) ready.clock.first });
+        left = left;
       },
     )
+  where
+    left : IsLeftWith table' (start_over triples queries table)
+    left = subst (λ t. IsLeftWith t (start_over triples queries table)) (sym same) (record { ready = ready; triples = has; queries = registered; last = below_first (stored_number table) ready.clock.first })
 
 is_source : (ending : Ending) → (ending ≡ endings.SourceFault) ⊎ (ending ≡ endings.SourceFault → ⊥)
 is_source endings.Ended = inr (λ e. let clash = e in cc)
@@ -435,13 +440,13 @@ is_source endings.Spent = inr (λ e. let clash = e in cc)
 is_source endings.TableFault = inr (λ e. let clash = e in cc)
 
 -- what wasn't read makes no difference, unless the source failed
-pub replays_read : (source old new : Option (List ℕ)) (table table' : Table) (language : Language) (triples : List Triple) (all : Bool) (bytes : List ℕ) (ending : Ending) (text : List ℕ) (end : State) → IsFrontOf source all bytes →
-    RunEnds language (start_over triples table) all bytes ending text end → Appends old new text → IsLeftWith table' end → Replays source old new table table' language triples (status_of ending)
-replays_read source old new table table' language triples true bytes ending text end front ends written left =
+pub replays_read : (source old new : Option (List ℕ)) (table table' : Table) (language : Language) (triples : List Triple) (queries : List Registration) (all : Bool) (bytes : List ℕ) (ending : Ending) (text : List ℕ) (end : State) → IsFrontOf source all bytes →
+    RunEnds language (start_over triples queries table) all bytes ending text end → Appends old new text → IsLeftWith table' end → Replays source old new table table' language triples queries (status_of ending)
+replays_read source old new table table' language triples queries true bytes ending text end front ends written left =
     record { ending = ending; is = refl; all = true; bytes = bytes; front = front; whole = λ no. absurd (let clash = no in cc); text = text; end = end; ends = ends; written = written; left = left }
-replays_read source old new table table' language triples false bytes ending text end front ends written left = by source front (is_source ending)
+replays_read source old new table table' language triples queries false bytes ending text end front ends written left = by source front (is_source ending)
   where
-    by : (source' : Option (List ℕ)) → IsFrontOf source' false bytes → (ending ≡ endings.SourceFault) ⊎ (ending ≡ endings.SourceFault → ⊥) → Replays source' old new table table' language triples (status_of ending)
+    by : (source' : Option (List ℕ)) → IsFrontOf source' false bytes → (ending ≡ endings.SourceFault) ⊎ (ending ≡ endings.SourceFault → ⊥) → Replays source' old new table table' language triples queries (status_of ending)
     by source' front' (inl is) = record { ending = ending; is = refl; all = false; bytes = bytes; front = front'; whole = λ no. is; text = text; end = end; ends = ends; written = written; left = left }
     by None front' (inr isnt) = record {
       ending = ending;
@@ -452,7 +457,7 @@ replays_read source old new table table' language triples false bytes ending tex
       whole = λ no. absurd (let clash = no in cc);
       text = text;
       end = end;
-      ends = ends_stand language (start_over triples table) true bytes [] ending text end ends isnt;
+      ends = ends_stand language (start_over triples queries table) true bytes [] ending text end ends isnt;
       written = written;
       left = left;
     }
@@ -465,26 +470,27 @@ replays_read source old new table table' language triples false bytes ending tex
       whole = λ no. absurd (let clash = no in cc);
       text = text;
       end = end;
-      ends = ends_stand language (start_over triples table) true bytes front'.0 ending text end ends isnt;
+      ends = ends_stand language (start_over triples queries table) true bytes front'.0 ending text end ends isnt;
       written = written;
       left = left;
     }
 
 -- a run of what was read of a source
-pub replays_input : (source old new : Option (List ℕ)) (table between table' : Table) (language : Language) (triples : List Triple) (input : Input) (result : Ending) → IsReadFrom source input → between ≡ table → HasTriples (row_at table) triples →
+pub replays_input : (source old new : Option (List ℕ)) (table between table' : Table) (language : Language) (triples : List Triple) (queries : List Registration) (input : Input) (result : Ending) → IsReadFrom source input → between ≡ table → HasTriples (row_at table) triples → HasRegistered (row_at table) queries →
     ((start : State) (commands : List Command) (script : ScriptEnding) → Begins start between → Spells (stop_of input.end) 1 (lines_up_to input.end input.bytes.items) commands script → Ran language start commands script old new table' result) →
-    Replays source old new table table' language triples (status_of result)
-replays_input source old new table between table' language triples input result read same has runs =
+    Replays source old new table table' language triples queries (status_of result)
+replays_input source old new table between table' language triples queries input result read same has registered runs =
     let what = reads_as source input.end input.bytes.items read in
     let (commands, script, spells) = some_reading what.all what.script in
-    let ran = runs (start_over triples table) commands script (subst (Begins (start_over triples table)) (sym same) (triples, has, refl))
+    let ran = runs (start_over triples queries table) commands script (subst (Begins (start_over triples queries table)) (sym same) (triples, queries, has, registered, refl))
     (subst (λ stop. Spells stop 1 (lines_up_to input.end input.bytes.items) commands script) what.stop (subst (λ lines. Spells (stop_at what.all what.script) 1 lines commands script) what.lines spells)) in
-    replays_read source old new table table' language triples what.all what.script result ran.text ran.end what.front (record { commands = commands; script = script; read = spells; ends = ran.ends }) ran.written ran.left
+    replays_read source old new table table' language triples queries what.all what.script result ran.text ran.end what.front (record { commands = commands; script = script; read = spells; ends = ran.ends }) ran.written ran.left
 
--- another run may follow it: the table had some triples, and there is a language
+-- another run may follow it: the table had some triples and some queries, and there is a language
 pub ready_behind : (source old new : Option (List ℕ)) (table between table' : Table) (input : Input) (result : Ending) → IsReadFrom source input → between ≡ table → IsOpen table → IsThere →
     ((language : Language) (start : State) (commands : List Command) (script : ScriptEnding) → IsSparql language → Begins start between → Spells (stop_of input.end) 1 (lines_up_to input.end input.bytes.items) commands script → Ran language start commands script old new table' result) →
     IsOpen table'
 ready_behind source old new table between table' input result read same ready (language, sparql) runs =
     let (triples, has) = table_triples (stored_number table) table ready.fit.decodes in
-    (replays_input source old new table between table' language triples input result read same has (λ start commands script begins spells. runs language start commands script sparql begins spells)).left.ready
+    let (queries, registered) = some_queries (stored_number table) table ready.fit in
+    (replays_input source old new table between table' language triples queries input result read same has registered (λ start commands script begins spells. runs language start commands script sparql begins spells)).left.ready

@@ -1,5 +1,5 @@
 -- What stands at the front of a script, and what is behind it.
-use Rattle.std.proofs.Common.{◌≡◌, ◌≤◌, ◌<◌, ◌+◌, ℕ, suc, Bool, true, false, ◌&&◌, ◌==◌, nat_le, List, [], ◌∷◌, ◌++◌, length, drop, take, get_or, cond, filter, Option, Some, None, inl, inr, refl, ap, sym, subst, ◌∙◌, arith, if◌then◌else◌}
+use Rattle.std.proofs.Common.{◌≡◌, ◌≤◌, ◌<◌, ◌+◌, ℕ, suc, Bool, true, false, ◌&&◌, ◌==◌, nat_le, List, [], ◌∷◌, ◌++◌, length, take, get_or, cond, filter, Some, None, refl, ap, sym, subst, ◌∙◌, arith, if◌then◌else◌}
 use Rattle.std.specs.List.{list_all}
 use Rattle.std.proofs.lemmas.Bool.{leb-true}
 use Rattle.std.proofs.lemmas.List.{take_more}
@@ -9,7 +9,7 @@ use Rattle.pcj_script.specs.Commands.Command.{Load, Register, StepClient, Crash,
 use Rattle.pcj_script.specs.Front.{Front, HasFront}
 use Rattle.pcj_script.specs.Front.Front.{Whole}
 use Rattle.pcj_script.specs.Lines.{Line, lines_given, onto_line, said, script_lines}
-use Rattle.pcj_script.specs.Places.{count_of, number_within, value_of}
+use Rattle.pcj_script.specs.Places.{count_of, value_of}
 use Rattle.pcj_script.specs.Script.{Ending, Spells, Stop}
 use Rattle.pcj_script.specs.Words.{words_of}
 use Rattle.pcj_script.proofs.FrontLaws.{one_front}

@@ -1,5 +1,5 @@
 -- What a command writes, or how it stops.
-use Rattle.std.specs.Prelude.{◌≡◌, ◌⊎◌, ℕ, List, [], ◌∷◌, Option, None}
+use Rattle.std.specs.Prelude.{◌⊎◌, ℕ, List, [], Option}
 use Rattle.pcj_io.specs.Sink.{Appends, AppendsPrefix}
 use Rattle.pcj_table.specs.Table.{Table}
 use Rattle.pcj_script.specs.Commands.{Command}

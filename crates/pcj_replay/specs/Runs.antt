@@ -1,5 +1,5 @@
 -- How far a run comes, and how it ends.
-use Rattle.std.specs.Prelude.{◌≡◌, ◌⊎◌, ◌+◌, ℕ, Bool, true, false, List, [], ◌∷◌, ◌++◌, Option}
+use Rattle.std.specs.Prelude.{◌≡◌, ◌⊎◌, ◌+◌, ℕ, Bool, false, List, [], ◌∷◌, ◌++◌, Option}
 use Rattle.pcj_term.specs.declared.triple.Triple.{Triple}
 use Rattle.pcj_io.specs.Faults.{Rose}
 use Rattle.pcj_io.specs.Sink.{Appends, AppendsPrefix}
@@ -15,8 +15,10 @@ use Rattle.pcj_model.specs.Ending.{Ends, RunEnds, Tells, status_of}
 use Rattle.pcj_model.specs.Line.{printed}
 use Rattle.pcj_model.specs.Line.Line.{Script}
 use Rattle.pcj_model.specs.Reply.{Language}
+use Rattle.pcj_model.specs.Queries.{Registration}
 use Rattle.pcj_model.specs.State.{State}
-use Rattle.pcj_session.specs.Language.{IsSparql}
+use Rattle.pcj_jobs.specs.Agrees.{HasRegistered}
+use Rattle.pcj_session.specs.Session.{Held, Holds}
 use Rattle.pcj_replay.specs.declared.input.InputEnd.{InputEnd}
 use Rattle.pcj_replay.specs.declared.input.InputEnd.TheVariants.{AtEnd, AtLimit, AtFault}
 use Rattle.pcj_replay.specs.declared.stop.Stop.{Stop}
@@ -26,10 +28,10 @@ use Rattle.pcj_replay.specs.Input.{IsFrontOf}
 
 -- ---- whole runs
 
--- What was read of the script was carried out, by any language that is SPARQL's, from the triples that the table had. It ended
--- so, what is written is that of such an ending, and the table has the triples of its state; another run may follow. Where it didn't end by a fault of
--- the source, it is a run of the whole script, however much was read.
-pub record Replays (source old new : Option (List ℕ)) (before after : Table) (language : Language) (triples : List Triple) (status : ℕ) : Type 0 where
+-- What was read of the script was carried out, by any language that is SPARQL's, from the triples and the registered queries that
+-- the table had. It ended so, what is written is that of such an ending, and the table has the triples and the queries of its state;
+-- another run may follow. Where it didn't end by a fault of the source, it is a run of the whole script, however much was read.
+pub record Replays (source old new : Option (List ℕ)) (before after : Table) (language : Language) (triples : List Triple) (queries : List Registration) (status : ℕ) : Type 0 where
   pub ending : Ending
   pub is : status ≡ status_of ending
   pub all : Bool
@@ -38,7 +40,7 @@ pub record Replays (source old new : Option (List ℕ)) (before after : Table) (
   pub whole : all ≡ false → ending ≡ SourceFault
   pub text : List ℕ
   pub end : State
-  pub ends : RunEnds language (start_over triples before) all bytes ending text end
+  pub ends : RunEnds language (start_over triples queries before) all bytes ending text end
   pub written : Appends old new text
   pub left : IsLeftWith after end
 
@@ -46,7 +48,12 @@ pub record Replays (source old new : Option (List ℕ)) (before after : Table) (
 
 -- the state in which a run over a table begins
 abbrev pub Begins : State → Table → Type 0
-Begins start table = (triples : List Triple) × HasTriples (row_at table) triples × (start ≡ start_over triples table)
+Begins start table =
+    (triples : List Triple) × (queries : List Registration) × HasTriples (row_at table) triples × HasRegistered (row_at table) queries × (start ≡ start_over triples queries table)
+
+-- the session that begins with a table holds what is known of it, whatever triples and queries it has
+abbrev pub HoldsFirst : Held → Table → Type 0
+HoldsFirst held table = (start : State) → Begins start table → Holds [] held table start
 
 pub record Ran (language : Language) (start : State) (commands : List Command) (script : ScriptEnding) (old new : Option (List ℕ)) (table : Table) (ending : Ending) : Type 0 where
   pub text : List ℕ

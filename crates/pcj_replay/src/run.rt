@@ -1,5 +1,5 @@
 ghost use Rattle.std.specs.Prelude.{◌≡◌, ◌⊎◌, ◌≤◌, ◌<◌, ◌+◌, ◌^◌, false, List, [], ◌∷◌, length, IfOk, IfErr, IsErrOf};
-ghost use Rattle.pcj_oracle.specs.Clock.{stored_number};
+ghost use Rattle.pcj_oracle.specs.Clock.{IsClock, stored_number};
 ghost use Rattle.pcj_script.specs.Commands.{Command};
 ghost use Rattle.pcj_script.specs.Script.{Ending as ScriptEnding, Spells};
 ghost use Rattle.pcj_model.specs.Line.{line_of, printed};
@@ -10,9 +10,8 @@ ghost use Rattle.pcj_model.specs.declared.ending.Ending.TheVariants as endings;
 ghost use Rattle.pcj_session.specs.Language.{IsSparql};
 ghost use Rattle.pcj_replay.specs.declared.input.InputEnd.TheVariants as input_ends;
 ghost use Rattle.pcj_replay.specs.declared.stop.Stop.TheVariants as stops;
-ghost use Rattle.pcj_replay.specs.Entry.{IsOpen};
 ghost use Rattle.pcj_replay.specs.Input.{is_ended, lines_up_to, stop_of};
-ghost use Rattle.pcj_replay.specs.Runs.{Begins, Closes, EndsBehind, Finishes, IsReadEnd, Ran, RunsTo, StopsIn, TellsSinkFault};
+ghost use Rattle.pcj_replay.specs.Runs.{Begins, Closes, EndsBehind, Finishes, HoldsFirst, IsReadEnd, Ran, RunsTo, StopsIn, TellsSinkFault};
 ghost use Rattle.pcj_replay.specs.Stop.{HasSinkCause};
 
 use crate::answer::{answer, write_line};
@@ -29,11 +28,13 @@ use std::alloc::Global;
 /// begins. Then the line that is refused, if one is, is named.
 pub(crate) fn run<K: Sink, T: RowTable>(
     alloc: Global,
+    session: Session,
     input: &Input,
     sink: &mut K,
     table: &mut T,
 ) -> Ending
-    requires ready { IsOpen (T.rows table.old) }
+    requires first { HoldsFirst session (T.rows table.old) }
+    requires clock { IsClock session.oracle (T.rows table.old) }
     requires small { length input.now.bytes.items < 2 ^ 63 }
     ensures ends { (language : Language) (start : State) (commands : List Command) (script : ScriptEnding) → IsSparql language → Begins start (T.rows table.old) →
         Spells (stop_of input.now.end) 1 (lines_up_to input.now.end input.now.bytes.items) commands script → Ran language start commands script (K.taken sink.old) (K.taken sink.new) (T.rows table.new) result }
@@ -42,7 +43,7 @@ pub(crate) fn run<K: Sink, T: RowTable>(
     ensures spent { result ≡ endings.Spent → stored_number (T.rows table.new) ≡ 2 ^ 48 }
     ensures table { result ≡ endings.TableFault → ⊥ }
 {
-    match carry_out(alloc, input, sink, table) {
+    match carry_out(alloc, session, input, sink, table) {
         Ok(ending) => finish(alloc, ending, sink),
         Err(Stop::Spent) => close(alloc, Line::Spent, Ending::Spent, sink),
         Err(Stop::SinkFault) => Ending::SinkFault,
@@ -53,11 +54,13 @@ pub(crate) fn run<K: Sink, T: RowTable>(
 /// Carries out the commands, and tells how what was read ends behind them.
 fn carry_out<K: Sink, T: RowTable>(
     alloc: Global,
+    mut session: Session,
     input: &Input,
     sink: &mut K,
     table: &mut T,
 ) -> Result<Ending, Stop>
-    requires ready { IsOpen (T.rows table.old) }
+    requires first { HoldsFirst session (T.rows table.old) }
+    requires clock { IsClock session.oracle (T.rows table.old) }
     requires small { length input.now.bytes.items < 2 ^ 63 }
     ensures done { (language : Language) (start : State) (commands : List Command) (script : ScriptEnding) → IsSparql language → Begins start (T.rows table.old) →
         Spells (stop_of input.now.end) 1 (lines_up_to input.now.end input.now.bytes.items) commands script →
@@ -69,7 +72,6 @@ fn carry_out<K: Sink, T: RowTable>(
     ensures spent { IsErrOf result stops.Spent → stored_number (T.rows table.new) ≡ 2 ^ 48 }
     ensures kind { IfOk result (IsReadEnd input.now.end) }
 {
-    let mut session = Session::new(alloc);
     let mut rest = input.bytes.as_slice();
     let mut line = 1;
     let end = input.end;

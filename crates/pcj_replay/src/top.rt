@@ -1,16 +1,19 @@
-ghost use Rattle.std.specs.Prelude.{◌≡◌, ◌≤◌, ◌^◌, ◌∷◌, ◌↔◌, [], List, map, IsTrue};
+ghost use Rattle.std.specs.Prelude.{◌≡◌, ◌≤◌, ◌^◌, ◌∷◌, ◌↔◌, [], List, map, IfOk, IsErrOf, IsTrue};
 ghost use Rattle.std.specs.String.{string_bytes};
 ghost use Rattle.pcj_term.specs.declared.triple.Triple.{Triple};
 ghost use Rattle.pcj_io.specs.Faults.{Rose};
 ghost use Rattle.pcj_table.specs.Table.{row_at};
-ghost use Rattle.pcj_oracle.specs.Clock.{stored_number};
+ghost use Rattle.pcj_table.specs.declared.error.TableError.TheVariants as table_errors;
+ghost use Rattle.pcj_oracle.specs.Clock.{IsClock, stored_number};
 ghost use Rattle.pcj_fit.specs.Triples.{HasTriples};
 ghost use Rattle.pcj_model.specs.Ending.{status_of};
+ghost use Rattle.pcj_model.specs.Queries.{Registration};
 ghost use Rattle.pcj_model.specs.Reply.{Language};
 ghost use Rattle.pcj_model.specs.declared.ending.Ending.TheVariants as endings;
+ghost use Rattle.pcj_jobs.specs.Agrees.{HasRegistered};
 ghost use Rattle.pcj_session.specs.Language.{IsSparql};
 ghost use Rattle.pcj_replay.specs.Entry.{IsOpen};
-ghost use Rattle.pcj_replay.specs.Runs.{Replays};
+ghost use Rattle.pcj_replay.specs.Runs.{HoldsFirst, Replays};
 ghost use Rattle.pcj_replay.specs.Usage.{IsReplay, ShowsUsage};
 
 use crate::input::Input;
@@ -19,7 +22,8 @@ use pcj_io::{Sink, SinkError, Source, write_all};
 use pcj_lines::push_usage;
 use pcj_model::Ending;
 use pcj_pending::pending;
-use pcj_session::sparql_is_a_language;
+use pcj_registrations::registrations;
+use pcj_session::{Session, sparql_is_a_language};
 use pcj_table::{RowTable, TableError};
 use pcj_term::{Bytes, Memory};
 use std::alloc::Global;
@@ -28,7 +32,7 @@ use std::alloc::Global;
 /// Other words write the usage line, and nothing is read.
 ///
 /// The table is an empty one, or one that an earlier call has left, wherever that was stopped: locks that stand there are those
-/// of loads that crashed. Each load is a transaction over it, whose steps go on beside those of all others (Percolator, OSDI
+/// of loads and registrations that crashed, and its registered queries are answered. Each load is a transaction over it, whose steps go on beside those of all others (Percolator, OSDI
 /// 2010, section 2.2).
 ///
 /// The result is the program's exit status: 0 at the script's end, 2 where a line of the script or the words are refused, 3 for a
@@ -43,9 +47,9 @@ pub fn replay<S: Source, K: Sink, T: RowTable>(
 ) -> u8
     requires { IsOpen (T.rows table.old) }
 
-    // The transcript of a run of the script's commands, as far as the status tells, and the triples that it leaves.
-    ensures replays { IsReplay (map string_bytes words.now) → (language : Language) (triples : List Triple) → IsSparql language → HasTriples (row_at (T.rows table.old)) triples →
-        Replays (S.left source.old) (K.taken sink.old) (K.taken sink.new) (T.rows table.old) (T.rows table.new) language triples result }
+    // The transcript of a run of the script's commands, as far as the status tells, and the triples and queries that it leaves.
+    ensures replays { IsReplay (map string_bytes words.now) → (language : Language) (triples : List Triple) (queries : List Registration) → IsSparql language → HasTriples (row_at (T.rows table.old)) triples →
+        HasRegistered (row_at (T.rows table.old)) queries → Replays (S.left source.old) (K.taken sink.old) (K.taken sink.new) (T.rows table.old) (T.rows table.new) language triples queries result }
 
     // Another call may follow, whatever the words and the status.
     ensures ready { IsOpen (T.rows table.new) }
@@ -86,8 +90,8 @@ fn replay_script<S: Source, K: Sink, T: RowTable>(
     table: &mut T,
 ) -> Ending
     requires { IsOpen (T.rows table.old) }
-    ensures replays { (language : Language) (triples : List Triple) → IsSparql language → HasTriples (row_at (T.rows table.old)) triples →
-        Replays (S.left source.old) (K.taken sink.old) (K.taken sink.new) (T.rows table.old) (T.rows table.new) language triples (status_of result) }
+    ensures replays { (language : Language) (triples : List Triple) (queries : List Registration) → IsSparql language → HasTriples (row_at (T.rows table.old)) triples → HasRegistered (row_at (T.rows table.old)) queries →
+        Replays (S.left source.old) (K.taken sink.old) (K.taken sink.new) (T.rows table.old) (T.rows table.new) language triples queries (status_of result) }
     ensures source_fault { result ≡ endings.SourceFault → Rose (S.faults source.old) (S.faults source.new) }
     ensures sink_fault { result ≡ endings.SinkFault → Rose (K.faults sink.old) (K.faults sink.new) }
     ensures ready { IsOpen (T.rows table.new) }
@@ -96,15 +100,28 @@ fn replay_script<S: Source, K: Sink, T: RowTable>(
     ensures table_fault_at_entry { result ≡ endings.TableFault → (source.new ≡ source.old) × (sink.new ≡ sink.old) × (T.rows table.new ≡ T.rows table.old) }
 {
     sparql_is_a_language();
-    match pending(alloc, table) {
-        Ok(_) => {}
+    let session = match open_session(alloc, table) {
+        Ok(session) => session,
         Err(TableError::Failed) => return Ending::TableFault,
         Err(TableError::Memory) => return Ending::OutOfMemory,
-    }
+    };
     match Input::read(alloc, source) {
-        Ok(input) => run(alloc, &input, sink, table),
+        Ok(input) => run(alloc, session, &input, sink, table),
         Err(Memory) => Ending::OutOfMemory,
     }
+}
+
+/// Looks at the table, and gives the session that knows its registered queries.
+fn open_session<T: RowTable>(alloc: Global, table: &mut T) -> Result<Session, TableError>
+    requires { IsOpen (T.rows table.old) }
+    ensures first { IfOk result (λ session. HoldsFirst session (T.rows table.old)) }
+    ensures clock { IfOk result (λ session. IsClock session.oracle (T.rows table.old)) }
+    ensures same { T.rows table.new ≡ T.rows table.old }
+    ensures fault { IsErrOf result table_errors.Failed → Rose (T.failures table.old) (T.failures table.new) }
+{
+    pending(alloc, table)?;
+    let registrations = registrations(alloc, table)?;
+    Ok(Session::new(alloc, registrations.as_slice())?)
 }
 
 /// Writes the usage line, and gives the status.

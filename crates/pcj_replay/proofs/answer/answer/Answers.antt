@@ -1,5 +1,5 @@
 use Rattle.pcj_script.specs.Commands.{command_of}
-use Rattle.std.proofs.Common.{◌≡◌, [], ap, subst, sym, ◌∙◌}
+use Rattle.std.proofs.Common.{[], ◌∙◌}
 use Rattle.pcj_replay.specs.declared.stop.Stop.TheVariants as stops
 use Rattle.pcj_replay.specs.Answer.{StopsAnswer}
 use Rattle.pcj_replay.specs.Stop.{session_stop, sink_stop}

@@ -1,12 +1,9 @@
-use Rattle.std.proofs.Common.{◌≡◌, ◌⊎◌, ◌≤◌, ◌<◌, ◌+◌, Bool, true, false, length, subst, sym, arith}
-use Rattle.pcj_io.proofs.Causes.{Rose-since}
-use Rattle.pcj_oracle.specs.Clock.{IsClock}
+use Rattle.std.proofs.Common.{◌≡◌, ◌⊎◌, Bool, true, false, subst, sym, arith}
 use Rattle.pcj_script.specs.Commands.{command_of}
 use Rattle.pcj_script.specs.Front.{HasFront}
 use Rattle.pcj_script.specs.Front.Front.{NoLine, Open, Skipped, Whole}
 use Rattle.pcj_script.specs.Lines.{IsUsed, lines_given}
 use Rattle.pcj_script.specs.Told.{RefusesLine}
-use Rattle.pcj_session.specs.Session.{Held}
 use Rattle.pcj_replay.specs.Runs.{StopsIn}
 use Rattle.pcj_replay.proofs.AnswerLemmas.{by_stop}
 use Rattle.pcj_replay.proofs.RunLemmas.{Goes, end_done, first_goes, open_done, refused_done, skipped_goes, stops_in, taken_goes}
@@ -14,9 +11,9 @@ use Rattle.pcj_replay.proofs.run.carry_out.Goals as goal
 
 pub loop-command-init : goal.loop-command-init
 loop-command-init g c = (
-  subst (λ (held : Held). Goes c.args.input.now.end c.args.input.now.bytes.items (g.T.RowTable.rows c.args.table.now) (g.K.Sink.taken c.args.sink.now) (g.K.Sink.taken c.args.sink.now) held (g.T.RowTable.rows c.args.table.now) 1 c.as_slice-rest.result.now) (sym c.new-session.ensures)
-      (subst (λ rest. Goes c.args.input.now.end c.args.input.now.bytes.items (g.T.RowTable.rows c.args.table.now) (g.K.Sink.taken c.args.sink.now) (g.K.Sink.taken c.args.sink.now) _ (g.T.RowTable.rows c.args.table.now) 1 rest) (sym c.as_slice-rest.ensures.value) (first_goes c.args.input.now.end c.args.input.now.bytes.items (g.T.RowTable.rows c.args.table.now) (g.K.Sink.taken c.args.sink.now) c.requires.ready)),
-  subst (λ (held : Held). IsClock held.oracle (g.T.RowTable.rows c.args.table.now)) (sym c.new-session.ensures) c.requires.ready.clock,
+  subst (λ rest. Goes c.args.input.now.end c.args.input.now.bytes.items (g.T.RowTable.rows c.args.table.now) (g.K.Sink.taken c.args.sink.now) (g.K.Sink.taken c.args.sink.now) c.args.session (g.T.RowTable.rows c.args.table.now) 1 rest) (sym c.as_slice-rest.ensures.value)
+      (first_goes c.args.input.now.end c.args.input.now.bytes.items c.args.session (g.T.RowTable.rows c.args.table.now) (g.K.Sink.taken c.args.sink.now) c.requires.first),
+  c.requires.clock,
   omega arith,
   omega (arith, c.requires.small, c.as_slice-rest.ensures),
   omega (arith, c.as_slice-rest.ensures),

@@ -1,4 +1,4 @@
-use Rattle.std.proofs.Common.{rules, ◌≡◌, ◌≤◌, ◌==◌, ◌∙◌, cond, get_or, length, ap, arith}
+use Rattle.std.proofs.Common.{rules, ◌≡◌, ◌==◌, ◌∙◌, cond, get_or, ap, arith}
 use Rattle.std.proofs.lemmas.List.{take_all}
 use Rattle.pcj_replay.proofs.ScriptLemmas.{count_step, feeds, lines_are_feeds}
 use Rattle.pcj_replay.proofs.run.whole_lines.Goals as goal
