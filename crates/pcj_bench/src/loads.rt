@@ -3,7 +3,7 @@ ghost use Rattle.pcj_oracle.specs.Clock.{IsClock};
 
 use crate::engine::Engine;
 use crate::failure::Failure;
-use pcj_client::LoadJob;
+use pcj_client::{Job, LoadJob};
 use pcj_clients::{Clients, StepsEnd};
 use pcj_encode::{KeyName, TaskName, write_key};
 use pcj_memtable::MemTable;
@@ -184,7 +184,8 @@ fn load_document<T: RowTable>(
 {
     let load = oracle.draw(table)?;
     let triples = read_document(alloc, text, load)?;
-    make_steps(alloc, table, oracle, LoadJob::new(alloc, load, triples))
+    let job = Job::load(LoadJob::new(alloc, load, triples));
+    make_steps(alloc, table, oracle, job)
 }
 
 /// Makes a client's steps until its load is done. How many that were.
@@ -192,7 +193,7 @@ fn make_steps<T: RowTable>(
     alloc: Global,
     table: &mut T,
     oracle: &mut Oracle,
-    job: LoadJob,
+    job: Job,
 ) -> Result<u64, Failure>
     requires { IsClock oracle.old (T.rows table.old) }
     ensures { IsClock oracle.new (T.rows table.new) }

@@ -9,7 +9,7 @@ use pcj_term::{Bytes, Memory};
 use std::alloc::Global;
 use std::process::Abort;
 
-/// Two clients load a triple each. Each makes its steps, and again those that are left.
+/// Two clients load a triple each, and one of them registers a query. Each makes its steps, and again those that are left.
 const SCRIPT: &[u8] = b"load c1
 <http://e.org/a> <http://e.org/p> <http://e.org/b> .
 end
@@ -23,6 +23,8 @@ step c2 100
 register c1 q
 SELECT DISTINCT ?x ?y WHERE { ?x <http://e.org/p> ?y }
 end
+step c1 100
+step c1 100
 answers q
 status
 ";
@@ -103,23 +105,41 @@ fn steps_told(call: u64) -> &'static [u8] {
     }
 }
 
-/// What the last commands tell. An answer of two rows takes three calls, a count of two notifications and no lock four.
-fn rest_told(call: u64) -> &'static [u8] {
+/// What the two commands of steps of the registration tell, which take eleven steps as those of a load. Where a load faulted at
+/// the draw of its number, there is one load alone, and the numbers are two lower.
+fn registered_told(call: u64) -> &'static [u8] {
     match call {
         1..=2 => {
-            b"c1 register 3 q\nc1 committed 4\n<http://e.org/c>\t\"5\"\nrows 1\nnotifications 1 locks 0\n"
+            b"c1 register 3 q\nc1 committed 4\nc1 done\nc1 steps 11\nc1 nothing\nc1 steps 0\n"
         }
-        21..=23 => { b"c1 register 5 q\nc1 committed 6\nanswers fault\nnotifications 2 locks 0\n" }
-        24..=27 => {
-            b"c1 register 5 q\nc1 committed 6\n<http://e.org/a>\t<http://e.org/b>\n<http://e.org/c>\t\"5\"\nrows 2\nstatus fault\n"
+        21 => { b"c1 register 5 q\nc1 fault\nc1 steps 1\nc1 committed 6\nc1 done\nc1 steps 11\n" }
+        22 => { b"c1 register 5 q\nc1 fault\nc1 steps 2\nc1 committed 6\nc1 done\nc1 steps 10\n" }
+        23 => b"c1 register 5 q\nc1 fault\nc1 steps 3\nc1 committed 6\nc1 done\nc1 steps 9\n",
+        24 => b"c1 register 5 q\nc1 fault\nc1 steps 4\nc1 committed 6\nc1 done\nc1 steps 8\n",
+        25 => b"c1 register 5 q\nc1 fault\nc1 steps 5\nc1 committed 6\nc1 done\nc1 steps 7\n",
+        26 => b"c1 register 5 q\nc1 fault\nc1 steps 7\nc1 committed 6\nc1 done\nc1 steps 5\n",
+        27 => b"c1 register 5 q\nc1 committed 6\nc1 fault\nc1 steps 8\nc1 done\nc1 steps 4\n",
+        28 => b"c1 register 5 q\nc1 committed 6\nc1 fault\nc1 steps 9\nc1 done\nc1 steps 3\n",
+        29 => b"c1 register 5 q\nc1 committed 6\nc1 fault\nc1 steps 10\nc1 done\nc1 steps 2\n",
+        _ => { b"c1 register 5 q\nc1 committed 6\nc1 done\nc1 steps 11\nc1 nothing\nc1 steps 0\n" }
+    }
+}
+
+/// What the last commands tell. An answer of two rows takes three calls, a count of three notifications and no lock five.
+fn rest_told(call: u64) -> &'static [u8] {
+    match call {
+        1..=2 => b"<http://e.org/c>\t\"5\"\nrows 1\nnotifications 2 locks 0\n",
+        30..=32 => b"answers fault\nnotifications 3 locks 0\n",
+        33..=37 => {
+            b"<http://e.org/a>\t<http://e.org/b>\n<http://e.org/c>\t\"5\"\nrows 2\nstatus fault\n"
         }
         _ => {
-            b"c1 register 5 q\nc1 committed 6\n<http://e.org/a>\t<http://e.org/b>\n<http://e.org/c>\t\"5\"\nrows 2\nnotifications 2 locks 0\n"
+            b"<http://e.org/a>\t<http://e.org/b>\n<http://e.org/c>\t\"5\"\nrows 2\nnotifications 3 locks 0\n"
         }
     }
 }
 
-fn joined(alloc: Global, parts: [&[u8]; 3]) -> Result<Bytes, Memory> {
+fn joined(alloc: Global, parts: [&[u8]; 4]) -> Result<Bytes, Memory> {
     let mut text = Bytes::new(alloc);
     text.extend_from_pieces(&parts)?;
     Ok(text)
@@ -129,7 +149,12 @@ fn joined(alloc: Global, parts: [&[u8]; 3]) -> Result<Bytes, Memory> {
 pub(crate) fn are_told<T: RowTable>(rt: &impl Abort, alloc: Global, table: &mut T, call: u64)
     requires { IsFresh (T.rows table.old) }
 {
-    let parts = [loads_told(call), steps_told(call), rest_told(call)];
+    let parts = [
+        loads_told(call),
+        steps_told(call),
+        registered_told(call),
+        rest_told(call),
+    ];
     let Ok(written) = joined(alloc, parts) else {
         panic!(rt; "no memory");
     };

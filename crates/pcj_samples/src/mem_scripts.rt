@@ -10,7 +10,7 @@ use std::alloc::Global;
 use std::process::Abort;
 
 /// How many calls a run makes at its entry over a table without rows.
-pub(crate) const ENTRY: u64 = 2;
+pub(crate) const ENTRY: u64 = 3;
 
 /// A script ends with this status where this number is granted first, and this is written.
 fn ends_from(rt: &impl Abort, alloc: Global, number: u64, script: &[u8], written: &[u8], status: u8)
@@ -40,9 +40,12 @@ fn a_load_ends_where_no_number_is_left(rt: HostRuntime) {
 }
 
 #[test]
-fn a_registration_ends_where_its_second_number_is_none(rt: HostRuntime) {
-    let script = b"register c1 q\nSELECT DISTINCT ?x WHERE { ?x ?p ?y }\nend\n";
-    ends_from(&rt, rt.alloc(), LAST, script, b"spent\n", 6);
+fn a_registration_ends_where_its_commit_has_no_number(rt: HostRuntime) {
+    let script =
+        b"register c1 q\nSELECT DISTINCT ?x WHERE { ?x ?p ?y }\nend\nstep c1 5\nstep c1 6\n";
+    let cut = b"c1 register 281474976710655 q\nc1 steps 5\nspent\n";
+    ends_from(&rt, rt.alloc(), LAST, script, cut, 6);
+    ends_from(&rt, rt.alloc(), LAST + 1, script, b"spent\n", 6);
 }
 
 #[test]
@@ -91,7 +94,7 @@ fn a_fault_of_the_entry_ends_the_run(rt: HostRuntime) {
 
 #[test]
 fn a_fault_of_the_table_is_told_and_all_goes_on(rt: HostRuntime) {
-    for call in 1..=28 {
+    for call in 1..=38 {
         let Ok(mut table) = failing_at(rt.alloc(), &[ENTRY + call]) else {
             panic!(rt; "no memory");
         };

@@ -16,7 +16,7 @@ fn a_fault_of_the_entry_over_pages_ends_the_run(rt: HostRuntime) {
 
 #[test]
 fn a_fault_of_pages_is_told_and_all_goes_on(rt: HostRuntime) {
-    for call in 1..=28 {
+    for call in 1..=38 {
         let Ok(mut table) = failing_at(rt.alloc(), &[ENTRY + call]) else {
             panic!(rt; "no memory");
         };

@@ -21,24 +21,28 @@ step c1 1000000
 register c1 q
 SELECT DISTINCT ?x ?y WHERE { ?x <http://e.org/p> ?y }
 end
+step c1 1000000
 answers q
 ";
 
 /// What is written for it. A load of two triples takes 20 steps: a look at each, a prewrite of each of eight rows, the draw, a
-/// commit of each row, and the one that tells the end.
+/// commit of each row, and the one that tells the end. A registration of one pattern takes eleven: a look at its name, and as much
+/// for each of four rows.
 pub(crate) const TRANSCRIPT: &[u8] = b"c1 load 1 2 triples
 c1 committed 2
 c1 done
 c1 steps 20
 c1 register 3 q
 c1 committed 4
+c1 done
+c1 steps 11
 <http://e.org/a>\t<http://e.org/b>
 <http://e.org/c>\t\"5\"
 rows 2
 ";
 
 /// Where each command of the script ends, and where its lines end in the transcript.
-const ENDS: [(usize, usize); 4] = [(105, 20), (121, 55), (194, 86), (204, 148)];
+const ENDS: [(usize, usize); 5] = [(105, 20), (121, 55), (194, 71), (210, 106), (220, 168)];
 
 /// How many bytes move in a call of the source or the sink, and which call of each fails, or 0 for none.
 #[derive(Clone, Copy)]
@@ -227,7 +231,8 @@ fn goes_on<T: RowTable>(
     assert!(rt; sink.taken() == written);
 }
 
-/// A run whose load is committed and no further, and a second run over the table that it left, which has the triples.
+/// A run in which a load and a registration are committed and no further, and another registration isn't; and a second run over
+/// the table that it left, which has the triples and the first of the two queries.
 pub(crate) fn go_on_after_a_run<T: RowTable>(rt: &impl Abort, alloc: Global, table: &mut T)
     requires { IsFresh (T.rows table.old) }
 {
@@ -236,23 +241,55 @@ pub(crate) fn go_on_after_a_run<T: RowTable>(rt: &impl Abort, alloc: Global, tab
 <http://e.org/c> <http://e.org/p> \"5\" .
 end
 step c1 12
-";
-    let written = b"c1 load 1 2 triples\nc1 committed 2\nc1 steps 12\n";
-    goes_on(rt, alloc, table, first, written);
-    let second = b"status
-register c1 q
+register c2 kept
 SELECT DISTINCT ?x ?y WHERE { ?x <http://e.org/p> ?y }
 end
-answers q
+step c2 7
+register c3 lost
+SELECT DISTINCT ?x ?y WHERE { ?x <http://e.org/p> ?y }
+end
+step c3 6
+";
+    let written = b"c1 load 1 2 triples
+c1 committed 2
+c1 steps 12
+c2 register 3 kept
+c2 committed 4
+c2 steps 7
+c3 register 5 lost
+c3 steps 6
+";
+    goes_on(rt, alloc, table, first, written);
+    let second = b"status
+answers kept
+answers lost
+register c1 kept
+SELECT DISTINCT ?x WHERE { ?x ?y ?x }
+end
+step c1 100
+register c1 lost
+SELECT DISTINCT ?x WHERE { ?x <http://e.org/p> ?y }
+end
+step c1 100
+answers lost
 status
 ";
-    let written = b"notifications 2 locks 7
-c1 register 1001 q
-c1 committed 1002
+    let written = b"notifications 4 locks 14
 <http://e.org/a>\t<http://e.org/b>
 <http://e.org/c>\t\"5\"
 rows 2
-notifications 2 locks 5
+no query lost
+c1 register 1002 kept
+c1 taken
+c1 steps 1
+c1 register 1003 lost
+c1 committed 1004
+c1 done
+c1 steps 13
+<http://e.org/a>
+<http://e.org/c>
+rows 2
+notifications 5 locks 11
 ";
     goes_on(rt, alloc, table, second, written);
 }
