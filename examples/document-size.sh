@@ -13,5 +13,6 @@ step c1 1000000
 register c1 q
 SELECT DISTINCT ?y WHERE { ?x ?y <a:o> }
 end
+step c1 1000000
 answers q
 END
