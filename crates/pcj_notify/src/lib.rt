@@ -9,11 +9,13 @@
 mod answer;
 mod ask;
 mod laws;
+mod plan;
 mod reading;
 mod task;
 
 pub use answer::Answer;
 pub use ask::Ask;
 pub use laws::tasks_are_read_back;
+pub use plan::{task_key, with_result, with_row};
 pub use reading::read_task;
 pub use task::Task;
