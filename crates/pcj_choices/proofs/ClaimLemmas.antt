@@ -6,12 +6,14 @@ use Rattle.pcj_table.specs.Row.{updated}
 use Rattle.pcj_table.specs.Table.{Key}
 use Rattle.pcj_table.specs.declared.lock.Lock.{Lock}
 use Rattle.pcj_table.specs.declared.plain.Plain.{Plain}
+use Rattle.pcj_table.specs.declared.row.Row.{Row}
 use Rattle.pcj_table.specs.declared.update.Update.TheVariants.{SetPlain}
 use Rattle.pcj_table.specs.declared.version.Version.{Version}
 use Rattle.pcj_table.specs.declared.write.Write.{Write}
 use Rattle.pcj_mvcc.proofs.Choices.{UnderEach, not_chosen, under_commit, under_draw}
 use Rattle.pcj_mvcc.specs.Acts.{commit_act, lock_of, roll_forward_act}
 use Rattle.pcj_mvcc.specs.Choices.{Choice, IsChoice, under}
+use Rattle.pcj_mvcc.specs.Choices as choices
 use Rattle.pcj_mvcc.specs.Reading.{Rows, SameReading, acted, allows, put, versions_read}
 use Rattle.pcj_moves.specs.Traces.{Trace, traces}
 use Rattle.pcj_moves.specs.declared.answer.Answer.{Answer}
@@ -40,19 +42,40 @@ Purpose = ℕ → List Answer → List Write → Type 0
 abbrev pub Has : Purpose → Actor → Type 0
 Has P actor = P actor.start actor.answers actor.transaction.writes
 
--- which plain values may be written, by key
+-- which plain values may be written: by the actor's start, what it has read, and what the row has
 abbrev pub Plains : Type 1
-Plains = Key → Plain → Type 0
+Plains = ℕ → List Answer → Option Plain → Key → Plain → Type 0
 
-abbrev pub WritesOnly : Plains → Move → Type 0
-WritesOnly Q (WritePlain key plain) = Q key plain
-WritesOnly Q _ = Unit {0}
+abbrev pub WritesOnly : Plains → Rows → Actor → Move → Type 0
+WritesOnly Q rows actor (WritePlain key plain) = Q actor.start actor.answers (rows key).plain key plain
+WritesOnly Q rows actor _ = Unit {0}
+
+-- those that any actor may write, whatever the row has
+abbrev pub WritesAlways : Plains → Move → Type 0
+WritesAlways Q (WritePlain key plain) = (start : ℕ) (answers : List Answer) (old : Option Plain) → Q start answers old key plain
+WritesAlways Q _ = Unit {0}
+
+pub always_only : (Q : Plains) (rows : Rows) (actor : Actor) (move : Move) → WritesAlways Q move → WritesOnly Q rows actor move
+always_only Q rows actor (Plan writes) is = tt
+always_only Q rows actor (Prewrite write) is = tt
+always_only Q rows actor (Draw commit) is = tt
+always_only Q rows actor (CommitPrimary write commit) is = tt
+always_only Q rows actor (CommitSecondary write commit) is = tt
+always_only Q rows actor (CommitNothing commit) is = tt
+always_only Q rows actor (Read answer) is = tt
+always_only Q rows actor (Meet key lock) is = tt
+always_only Q rows actor (Learn recovery) is = tt
+always_only Q rows actor (DropPrimary recovery) is = tt
+always_only Q rows actor (RollBack recovery) is = tt
+always_only Q rows actor (RollForward recovery commit) is = tt
+always_only Q rows actor EndRecovery is = tt
+always_only Q rows actor (WritePlain key plain) is = is actor.start actor.answers (rows key).plain
 
 -- A claim on the oracle's next number and rows: every move but the commit of a primary keeps it, and so does a commit above
 -- all numbers in the rows, whoever the others are.
 pub record IsKept (F : ℕ → Rows → Type 0) (P : Purpose) (Q : Plains) : Type 0 where
   pub others : (number : ℕ) (rows : Rows) (actor : Actor) (others : List Actor) (move : Move) → is_primary_commit move ≡ false → Has P actor →
-      IsConsistent (record { number = number; rows = rows; actors = actor ∷ others }) → IsAllowed move number rows actor → WritesOnly Q move → F number rows → F (number_after move number) (rows_after move actor rows)
+      IsConsistent (record { number = number; rows = rows; actors = actor ∷ others }) → IsAllowed move number rows actor → WritesOnly Q rows actor move → F number rows → F (number_after move number) (rows_after move actor rows)
   pub last : (number : ℕ) (rows : Rows) (actor : Actor) (others : List Actor) (write : Write) (commit : ℕ) → Has P actor → IsLast number rows actor others write commit →
       F number rows → F (suc commit) (acted rows write.key (commit_act write actor.start commit))
 
@@ -82,13 +105,30 @@ mover_has : (P : Purpose) (rows : Rows) (actor mover : Actor) → Has P actor �
 mover_has P rows actor mover has (inl same) = subst (Has P) (sym same) has
 mover_has P rows actor mover has (inr committed) = subst (Has P) (sym committed.2) has
 
+-- an act on a row of a transaction writes no plain value
+acts_only : (Q : Plains) (rows : Rows) (actor : Actor) (move : Move) (key : Key) → acts_on move ≡ Some key → WritesOnly Q rows actor move
+acts_only Q rows actor (Plan writes) key e = tt
+acts_only Q rows actor (Prewrite write) key e = tt
+acts_only Q rows actor (Draw commit) key e = tt
+acts_only Q rows actor (CommitPrimary write commit) key e = tt
+acts_only Q rows actor (CommitSecondary write commit) key e = tt
+acts_only Q rows actor (CommitNothing commit) key e = tt
+acts_only Q rows actor (Read answer) key e = tt
+acts_only Q rows actor (Meet met lock) key e = tt
+acts_only Q rows actor (Learn recovery) key e = tt
+acts_only Q rows actor (DropPrimary recovery) key e = tt
+acts_only Q rows actor (RollBack recovery) key e = tt
+acts_only Q rows actor (RollForward recovery commit) key e = tt
+acts_only Q rows actor EndRecovery key e = tt
+acts_only Q rows actor (WritePlain at plain) key e = absurd cc
+
 -- an act on a row
 act_kept : (F : ℕ → Rows → Type 0) (P : Purpose) (Q : Plains) → IsKept F P Q → (number : ℕ) (rows : Rows) (actor : Actor) (others : List Actor) (move : Move) (key : Key) → acts_on move ≡ Some key → is_primary_commit move ≡ false →
-    Has P actor → IsAllowed move number rows actor → WritesOnly Q move → IsConsistent (record { number = number; rows = rows; actors = actor ∷ others }) → UnderEach (F number) (IsRipeAt rows (actor ∷ others)) rows →
+    Has P actor → IsAllowed move number rows actor → IsConsistent (record { number = number; rows = rows; actors = actor ∷ others }) → UnderEach (F number) (IsRipeAt rows (actor ∷ others)) rows →
     UnderEach (F (number_after move number)) (IsRipeAt (rows_after move actor rows) (actor_after move rows actor ∷ others)) (rows_after move actor rows)
-act_kept F P Q kept number rows actor others move key is other has may plains consistent each choice chosen =
+act_kept F P Q kept number rows actor others move key is other has may consistent each choice chosen =
     subst (F (number_after move number)) (sym act.1)
-    (kept.others number (under choice rows) stands.mover stands.beside move other (mover_has P rows actor stands.mover has stands.is) stands.consistent act.0 plains (each choice was))
+    (kept.others number (under choice rows) stands.mover stands.beside move other (mover_has P rows actor stands.mover has stands.is) stands.consistent act.0 (acts_only Q (under choice rows) stands.mover move key is) (each choice was))
   where
     leaves : (k : Key) (commit : ℕ) → IsRipeAt (rows_after move actor rows) (actor_after move rows actor ∷ others) k commit → IsRipeAt rows (actor ∷ others) k commit × (k ≢ key)
     leaves = acts_leave_ripe number rows actor others move key is may consistent
@@ -105,13 +145,30 @@ act_kept F P Q kept number rows actor others move key is other has may plains co
     act : IsAllowed move number (under choice rows) stands.mover × (under choice (rows_after move actor rows) ≡ rows_after move stands.mover (under choice rows))
     act = acts_under_choice number rows actor stands.mover choice move key is may free stands.is
 
+-- a choice leaves the plain value of each row
+plain_stays : (chosen : Option ℕ) (row : Row) → (choices.with_commit chosen row).plain ≡ row.plain
+plain_stays None row = refl
+plain_stays (Some commit) row = by row.lock
+  where
+    by : (lock : Option Lock) → (choices.committed_row lock commit row).plain ≡ row.plain
+    by None = refl
+    by (Some lock) = refl
+
+mover_writes : (Q : Plains) (rows : Rows) (actor mover : Actor) (choice : Choice) (key : Key) (plain : Plain) → IsMaybeCommitted rows actor mover → Q actor.start actor.answers (rows key).plain key plain →
+    Q mover.start mover.answers (under choice rows key).plain key plain
+mover_writes Q rows actor mover choice key plain is held = by is (subst (λ old. Q actor.start actor.answers old key plain) (sym (plain_stays (choice key) (rows key))) held)
+  where
+    by : IsMaybeCommitted rows actor mover → Q actor.start actor.answers (under choice rows key).plain key plain → Q mover.start mover.answers (under choice rows key).plain key plain
+    by (inl same) q = subst (λ (a : Actor). Q a.start a.answers (under choice rows key).plain key plain) (sym same) q
+    by (inr committed) q = subst (λ (a : Actor). Q a.start a.answers (under choice rows key).plain key plain) (sym committed.2) q
+
 -- a plain value
-plain_kept : (F : ℕ → Rows → Type 0) (P : Purpose) (Q : Plains) → IsKept F P Q → (number : ℕ) (rows : Rows) (actor : Actor) (others : List Actor) (key : Key) (plain : Plain) → Has P actor → Q key plain →
+plain_kept : (F : ℕ → Rows → Type 0) (P : Purpose) (Q : Plains) → IsKept F P Q → (number : ℕ) (rows : Rows) (actor : Actor) (others : List Actor) (key : Key) (plain : Plain) → Has P actor → Q actor.start actor.answers (rows key).plain key plain →
     IsConsistent (record { number = number; rows = rows; actors = actor ∷ others }) → UnderEach (F number) (IsRipeAt rows (actor ∷ others)) rows →
     UnderEach (F number) (IsRipeAt (put rows key (updated (rows key) (SetPlain plain))) (actor ∷ others)) (put rows key (updated (rows key) (SetPlain plain)))
 plain_kept F P Q kept number rows actor others key plain has plains consistent each choice chosen =
     subst (F number) (sym (plain_under choice rows key plain))
-    (kept.others number (under choice rows) stands.mover stands.beside (WritePlain key plain) refl (mover_has P rows actor stands.mover has stands.is) stands.consistent tt plains (each choice was))
+    (kept.others number (under choice rows) stands.mover stands.beside (WritePlain key plain) refl (mover_has P rows actor stands.mover has stands.is) stands.consistent tt (mover_writes Q rows actor stands.mover choice key plain stands.is plains) (each choice was))
   where
     was : IsChoice (IsRipeAt rows (actor ∷ others)) choice
     was k commit e =
@@ -203,15 +260,15 @@ primary_kept F number rows actor others write commit may consistent each =
 
 -- ---- every move
 
-pub claim_is_kept : (F : ℕ → Rows → Type 0) (P : Purpose) (Q : Plains) → IsKept F P Q → (number : ℕ) (rows : Rows) (actor : Actor) (others : List Actor) (move : Move) → Has P actor → IsAllowed move number rows actor → WritesOnly Q move →
+pub claim_is_kept : (F : ℕ → Rows → Type 0) (P : Purpose) (Q : Plains) → IsKept F P Q → (number : ℕ) (rows : Rows) (actor : Actor) (others : List Actor) (move : Move) → Has P actor → IsAllowed move number rows actor → WritesOnly Q rows actor move →
     IsConsistent (record { number = number; rows = rows; actors = actor ∷ others }) → UnderEach (F number) (IsRipeAt rows (actor ∷ others)) rows →
     UnderEach (F (number_after move number)) (IsRipeAt (rows_after move actor rows) (actor_after move rows actor ∷ others)) (rows_after move actor rows)
 claim_is_kept F P Q kept number rows actor others (Plan writes) has may plains consistent each =
     fewer (F number) (IsRipeAt rows (actor ∷ others)) _ rows (ripe_before rows actor (with_transaction actor (new_transaction writes)) others (λ c ripe. absurd (let drawn = ripe.drawn in cc))) each
-claim_is_kept F P Q kept number rows actor others (Prewrite write) has may plains consistent each = act_kept F P Q kept number rows actor others (Prewrite write) write.key refl refl has may plains consistent each
+claim_is_kept F P Q kept number rows actor others (Prewrite write) has may plains consistent each = act_kept F P Q kept number rows actor others (Prewrite write) write.key refl refl has may consistent each
 claim_is_kept F P Q kept number rows actor others (Draw commit) has may plains consistent each = draw_kept F P Q kept number rows actor others commit has may consistent each
 claim_is_kept F P Q kept number rows actor others (CommitPrimary write commit) has may plains consistent each = primary_kept (F number) number rows actor others write commit may consistent each
-claim_is_kept F P Q kept number rows actor others (CommitSecondary write commit) has may plains consistent each = act_kept F P Q kept number rows actor others (CommitSecondary write commit) write.key refl refl has may plains consistent each
+claim_is_kept F P Q kept number rows actor others (CommitSecondary write commit) has may plains consistent each = act_kept F P Q kept number rows actor others (CommitSecondary write commit) write.key refl refl has may consistent each
 claim_is_kept F P Q kept number rows actor others (CommitNothing commit) has may plains consistent each =
     fewer (F number) (IsRipeAt rows (actor ∷ others)) _ rows (ripe_before rows actor (with_transaction actor (as_committed actor.transaction)) others (λ c ripe. absurd (let undone = ripe.undone in cc))) each
 claim_is_kept F P Q kept number rows actor others (Read answer) has may plains consistent each =
@@ -220,9 +277,9 @@ claim_is_kept F P Q kept number rows actor others (Meet key lock) has may plains
     fewer (F number) (IsRipeAt rows (actor ∷ others)) _ rows (ripe_before rows actor (actor_after (Meet key lock) rows actor) others (λ c ripe. (refl, ripe))) each
 claim_is_kept F P Q kept number rows actor others (Learn recovery) has may plains consistent each =
     fewer (F number) (IsRipeAt rows (actor ∷ others)) _ rows (ripe_before rows actor (actor_after (Learn recovery) rows actor) others (λ c ripe. (refl, ripe))) each
-claim_is_kept F P Q kept number rows actor others (DropPrimary recovery) has may plains consistent each = act_kept F P Q kept number rows actor others (DropPrimary recovery) recovery.lock.primary refl refl has may plains consistent each
-claim_is_kept F P Q kept number rows actor others (RollBack recovery) has may plains consistent each = act_kept F P Q kept number rows actor others (RollBack recovery) recovery.key refl refl has may plains consistent each
-claim_is_kept F P Q kept number rows actor others (RollForward recovery commit) has may plains consistent each = act_kept F P Q kept number rows actor others (RollForward recovery commit) recovery.key refl refl has may plains consistent each
+claim_is_kept F P Q kept number rows actor others (DropPrimary recovery) has may plains consistent each = act_kept F P Q kept number rows actor others (DropPrimary recovery) recovery.lock.primary refl refl has may consistent each
+claim_is_kept F P Q kept number rows actor others (RollBack recovery) has may plains consistent each = act_kept F P Q kept number rows actor others (RollBack recovery) recovery.key refl refl has may consistent each
+claim_is_kept F P Q kept number rows actor others (RollForward recovery commit) has may plains consistent each = act_kept F P Q kept number rows actor others (RollForward recovery commit) recovery.key refl refl has may consistent each
 claim_is_kept F P Q kept number rows actor others EndRecovery has may plains consistent each =
     fewer (F number) (IsRipeAt rows (actor ∷ others)) _ rows (ripe_before rows actor (with_recovery actor None) others (λ c ripe. (refl, ripe))) each
 claim_is_kept F P Q kept number rows actor others (WritePlain key plain) has may plains consistent each = plain_kept F P Q kept number rows actor others key plain has plains consistent each
@@ -248,7 +305,7 @@ steady_has P (WritePlain key plain) rows actor steady has = has
 
 abbrev pub AreSteady : Plains → List Move → Type 0
 AreSteady Q [] = Unit {0}
-AreSteady Q (move ∷ moves) = (is_steady move ≡ true) × WritesOnly Q move × AreSteady Q moves
+AreSteady Q (move ∷ moves) = (is_steady move ≡ true) × WritesAlways Q move × AreSteady Q moves
 
 pub steady_keep : (P : Purpose) (Q : Plains) (moves : List Move) (number : ℕ) (rows : Rows) (actor : Actor) (number' : ℕ) (rows' : Rows) (actor' : Actor) → AreSteady Q moves → Makes moves number rows actor number' rows' actor' → Has P actor → Has P actor'
 steady_keep P Q [] number rows actor number' rows' actor' steady makes has = subst (Has P) (sym makes.2) has
@@ -265,7 +322,7 @@ claims_are_kept F P Q kept [] number rows actor number' rows' actor' others stea
 claims_are_kept F P Q kept (move ∷ moves) number rows actor number' rows' actor' others steady makes has consistent each =
     claims_are_kept F P Q kept moves (number_after move number) (rows_after move actor rows) (actor_after move rows actor) number' rows' actor' others steady.2 makes.1 (steady_has P move rows actor steady.0 has)
     (move_is_consistent number rows actor others move makes.0 consistent)
-    (claim_is_kept F P Q kept number rows actor others move has makes.0 steady.1 consistent each)
+    (claim_is_kept F P Q kept number rows actor others move has makes.0 (always_only Q rows actor move steady.1) consistent each)
 
 -- an actor begins
 pub claim_begins : (F : Rows → Type 0) (rows : Rows) (start : ℕ) (actors : List Actor) → UnderEach F (IsRipeAt rows actors) rows → UnderEach F (IsRipeAt rows (new_actor start ∷ actors)) rows
@@ -349,11 +406,11 @@ reading_is_kept G P Q last = record {
 
 pub tests_stay_passed : TestsStayPassed
 tests_stay_passed test number rows actor others move last may consistent each =
-    claim_is_kept (λ n r. test (versions_read r) ≡ true) (PassesLast test) (λ key plain. Unit {0})
-    (reading_is_kept (λ read. test read ≡ true) (PassesLast test) (λ key plain. Unit {0}) (λ n r a o write commit has is held. has n r a o write commit refl refl refl is held))
+    claim_is_kept (λ n r. test (versions_read r) ≡ true) (PassesLast test) (λ start answers old key plain. Unit {0})
+    (reading_is_kept (λ read. test read ≡ true) (PassesLast test) (λ start answers old key plain. Unit {0}) (λ n r a o write commit has is held. has n r a o write commit refl refl refl is held))
     number rows actor others move last may (any_plain move) consistent each
   where
-    any_plain : (move : Move) → WritesOnly (λ key plain. Unit {0}) move
+    any_plain : (move : Move) → WritesOnly (λ start answers old key plain. Unit {0}) rows actor move
     any_plain (Plan writes) = tt
     any_plain (Prewrite write) = tt
     any_plain (Draw commit) = tt
