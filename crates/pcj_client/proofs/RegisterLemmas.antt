@@ -72,7 +72,7 @@ registers_work progress name tree writes work = record { transaction = work.tran
     planned (Get key) is at = nothing (Get key) is refl
     planned (Next range) is at = absurd at
     planned (Put key plain) is at = absurd at
-    planned (Writes txn) is at = inr (inr (name, tree, register_plan_of progress name tree writes txn work is))
+    planned (Writes txn) is at = inr (inr (inl (name, tree, register_plan_of progress name tree writes txn work is)))
 
 -- ---- what the job is
 

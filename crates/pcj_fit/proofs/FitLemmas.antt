@@ -1,5 +1,5 @@
 -- Every move keeps the rows fit.
-use Rattle.std.proofs.Common.{◌≡◌, ◌≢◌, inl, inr, ◌<◌, ◌≤◌, ℕ, suc, Bool, true, false, nat_lt, List, [], ◌∷◌, Option, Some, None, refl, ap, sym, subst, ◌∙◌, arith, if◌then◌else◌}
+use Rattle.std.proofs.Common.{◌≡◌, ◌≢◌, ◌⊎◌, inl, inr, ◌<◌, ◌≤◌, ℕ, suc, Bool, true, false, nat_lt, List, [], ◌∷◌, Option, Some, None, refl, ap, sym, subst, ◌∙◌, arith, if◌then◌else◌}
 use Rattle.std.proofs.lemmas.Bool.{and_parts, ltb-true}
 use Rattle.std.specs.List.{All, Contains}
 use Rattle.std.specs.Option.{option_map}
@@ -15,6 +15,7 @@ use Rattle.pcj_table.specs.declared.update.Update.TheVariants.{SetPlain}
 use Rattle.pcj_table.specs.declared.version.Version.{Version}
 use Rattle.pcj_table.specs.declared.write.Write.{Write}
 use Rattle.pcj_encode.specs.declared.order.Order.TheVariants.{Spo, Pos, Osp}
+use Rattle.pcj_encode.specs.declared.task_name.TaskName.{TaskName}
 use Rattle.pcj_encode.specs.declared.task_name.TaskName.TheVariants as task
 use Rattle.pcj_encode.specs.declared.key_name.KeyName.TheVariants as row
 use Rattle.pcj_encode.specs.Name.{IsNode, IsRegistration, IsTriple, key_of}
@@ -32,12 +33,12 @@ use Rattle.pcj_moves.specs.declared.answer.Answer.TheVariants.{OfRow}
 use Rattle.pcj_moves.specs.Reads.{Reads}
 use Rattle.pcj_moves.specs.Recoveries.{Knows, Recovers, Recovery}
 use Rattle.pcj_moves.specs.Actors.{Actor, with_transaction}
-use Rattle.pcj_moves.specs.Moves.{CommitNothing, CommitPrimary, CommitSecondary, Draw, DropPrimary, EndRecovery, IsAllowed, IsConsistent, Learn, MayCommitPrimary, MayCommitSecondary, MayPrewrite, Meet, Move, Plan, Prewrite, Read, RollBack, RollForward, WritePlain, actor_after, number_after, rows_after}
+use Rattle.pcj_moves.specs.Moves.{AreBelow, CommitNothing, CommitPrimary, CommitSecondary, Draw, DropPrimary, EndRecovery, IsAllowed, IsConsistent, Learn, MayCommitPrimary, MayCommitSecondary, MayPrewrite, Meet, Move, Plan, Prewrite, Read, RollBack, RollForward, WritePlain, actor_after, number_after, rows_after}
 use Rattle.pcj_moves.specs.StandingLaws.{StandsWhole}
 use Rattle.pcj_moves.proofs.ConsistencyLemmas.{forwarded, its_first, its_recovery, its_write, move_is_consistent, same_versions}
 use Rattle.pcj_moves.proofs.OtherLemmas.{lock_is}
 use Rattle.pcj_moves.proofs.StandingLemmas.{one_move_changes}
-use Rattle.pcj_moves.proofs.StepLemmas.{AtPrimary, at_primary, further, trace_lock, uncommitted}
+use Rattle.pcj_moves.proofs.StepLemmas.{AtPrimary, at_primary, further, trace_lock}
 use Rattle.pcj_moves.proofs.WriteLemmas.{distinct_are_there, undrawn_is_undone}
 use Rattle.pcj_choices.specs.ChoiceLaws.{IsLast}
 use Rattle.pcj_choices.specs.UnderChoice.{is_primary_commit}
@@ -45,17 +46,21 @@ use Rattle.pcj_choices.proofs.ClaimLemmas.{IsKept, WritesOnly, reads_the_same}
 use Rattle.pcj_fit.specs.Fit.{AtomicRows, Fit, NumbersApart}
 use Rattle.pcj_fit.specs.Origins.{HasOrigin, TasksHaveOrigins}
 use Rattle.pcj_fit.specs.OwnRows.{AreOwnFrom, IsOwnRow}
-use Rattle.pcj_fit.specs.Plans.{HasPlan, IsRegisterPlan, absent_of, load_writes}
+use Rattle.pcj_fit.specs.Plans.{HasPlan, IsLoadPlan, IsRegisterPlan, absent_of, load_writes}
 use Rattle.pcj_fit.specs.Registrations.{RegistrationsStand}
-use Rattle.pcj_fit.specs.Rows.{Decodes, HoldsVersions, IsDecoded, IsLockOf, IsVersionOf}
-use Rattle.pcj_fit.specs.Sound.{IsClockPlain}
+use Rattle.pcj_fit.specs.Rows.{Decodes, HoldsVersions, IsVersionOf}
+use Rattle.pcj_fit.specs.Names.{IsGranted}
+use Rattle.pcj_fit.specs.Sound.{IsClockPlain, IsFrom, MayWritePlain}
+use Rattle.pcj_fit.specs.Workers.{IsExport, IsWorkerPlan, export_line}
 use Rattle.pcj_fit.proofs.NumberLemmas.{apart_committed, apart_kept, apart_locked}
 use Rattle.pcj_fit.proofs.OwnRowLemmas.{own_is_empty, own_is_kept, own_replaced}
 use Rattle.pcj_fit.proofs.OldLemmas.{IsOld, written_is_old}
-use Rattle.pcj_fit.proofs.RegisterLemmas.{Part, as_backfill, as_pattern, name_written, own_written, part_name, part_valid}
+use Rattle.pcj_fit.proofs.RegisterLemmas.{as_backfill, as_pattern, name_written, own_written, part_name}
 use Rattle.pcj_fit.proofs.RegisteredLemmas.{Registers, SameRegistrations, backfill_joins, origin_stays, origin_written, registrations_join, registrations_stay, same_reading}
 use Rattle.pcj_fit.proofs.WriteLemmas.{CanWrite, none_written}
-use Rattle.pcj_fit.proofs.PlanLemmas.{Mark, WritesWhole, absent_all, as_task, by_order, load_names, mark_name, can_write, mark_key, writes_whole, written_by}
+use Rattle.pcj_fit.proofs.TimeLemmas.{standing_below}
+use Rattle.pcj_fit.proofs.WorkerLemmas.{IsOwnTask, granted_read, origin_outlasts, own_task, value_read, work_leaves}
+use Rattle.pcj_fit.proofs.PlanLemmas.{Mark, absent_all, as_task, by_order, can_write, is_among, load_names, mark_key, mark_name, mark_unwritten, mark_written, writes_whole, written_by}
 use Rattle.pcj_fit.proofs.RowLemmas.{all_with_version, decodes_later, decodes_put, from_versions, locked_row, row_of_name, to_versions}
 
 -- ---- the row of a write, and of a lock
@@ -116,11 +121,11 @@ atomic_whole : (start : ℕ) (answers : List Rattle.pcj_moves.specs.declared.ans
     AtomicRows before → AtomicRows after
 atomic_whole start answers writes commit before after plan whole atomic = record {
   pos = λ triple valid. let its = writes_whole start answers writes triple plan valid in
-      stands_of writes commit before after triple (by_order Pos) its.is whole (its.each (by_order Pos))
-      ∙ same (Some ([], commit)) its.is (atomic.pos triple valid) ∙ sym (stands_of writes commit before after triple (by_order Spo) its.is whole (its.each (by_order Spo)));
+      stands_of writes commit before after triple (by_order Pos) its.is whole (its.each Pos)
+      ∙ same (Some ([], commit)) its.is (atomic.pos triple valid) ∙ sym (stands_of writes commit before after triple (by_order Spo) its.is whole (its.each Spo));
   osp = λ triple valid. let its = writes_whole start answers writes triple plan valid in
-      stands_of writes commit before after triple (by_order Osp) its.is whole (its.each (by_order Osp))
-      ∙ same (Some ([], commit)) its.is (atomic.osp triple valid) ∙ sym (stands_of writes commit before after triple (by_order Spo) its.is whole (its.each (by_order Spo)));
+      stands_of writes commit before after triple (by_order Osp) its.is whole (its.each Osp)
+      ∙ same (Some ([], commit)) its.is (atomic.osp triple valid) ∙ sym (stands_of writes commit before after triple (by_order Spo) its.is whole (its.each Spo));
 }
   where
     same : {X : Type 0} (new : X) {a b : X} (is : Bool) → a ≡ b → (if is then new else a) ≡ (if is then new else b)
@@ -145,8 +150,8 @@ load_leaves triples commit before after valid whole = record {
   names = λ name. (whole.others (key_of (row.Name name)) (none_written (load_writes triples) (row.Name name) tt (load_names (λ n. n ≢ row.Name name) triples valid (λ mark triple. not_name name mark triple)))).stands;
   registrations = λ registration number. (whole.others (key_of (row.Registration registration)) (none_written (load_writes triples) (row.Registration registration) number
       (load_names (λ n. n ≢ row.Registration registration) triples valid (λ mark triple. not_registration registration mark triple)))).stands;
-  parts = λ part registration node number small. whole.others (key_of (part_name part registration node)) (none_written (load_writes triples) (part_name part registration node) (part_valid part registration node number small)
-      (load_names (λ n. n ≢ part_name part registration node) triples valid (λ mark triple. not_part part registration node mark triple)));
+  patterns = λ registration node number small. whole.others (key_of (row.Pattern registration node)) (none_written (load_writes triples) (row.Pattern registration node) (number, small)
+      (load_names (λ n. n ≢ row.Pattern registration node) triples valid (λ mark triple. not_pattern registration node mark triple)));
 }
   where
     not_name : (name : List ℕ) (mark : Mark) (triple : Triple) → mark_name mark triple ≢ row.Name name
@@ -157,32 +162,50 @@ load_leaves triples commit before after valid whole = record {
     not_registration registration (by_order order) triple e = cc
     not_registration registration as_task triple e = cc
 
-    not_part : (part : Part) (registration node : ℕ) (mark : Mark) (triple : Triple) → mark_name mark triple ≢ part_name part registration node
-    not_part as_pattern registration node (by_order order) triple e = cc
-    not_part as_pattern registration node as_task triple e = cc
-    not_part as_backfill registration node (by_order order) triple e = cc
-    not_part as_backfill registration node as_task triple e = cc
+    not_pattern : (registration node : ℕ) (mark : Mark) (triple : Triple) → mark_name mark triple ≢ row.Pattern registration node
+    not_pattern registration node (by_order order) triple e = cc
+    not_pattern registration node as_task triple e = cc
+
+-- and the tasks of its backfills
+load_leaves_backfills : (triples : List Triple) (commit : ℕ) (before after : Rows) → All IsTriple triples → StandsWhole (load_writes triples) commit before after → (registration node : ℕ) → IsRegistration registration → IsNode node →
+    SameStanding before after (key_of (row.Task (task.Backfill registration node)))
+load_leaves_backfills triples commit before after valid whole registration node number small =
+    whole.others (key_of (row.Task (task.Backfill registration node))) (none_written (load_writes triples) (row.Task (task.Backfill registration node)) (number, small)
+    (load_names (λ n. n ≢ row.Task (task.Backfill registration node)) triples valid not_backfill))
+  where
+    not_backfill : (mark : Mark) (triple : Triple) → mark_name mark triple ≢ row.Task (task.Backfill registration node)
+    not_backfill (by_order order) triple e = cc
+    not_backfill as_task triple e = cc
 
 nothing_leaves : (writes : List Write) (commit : ℕ) (before after : Rows) → writes ≡ [] → StandsWhole writes commit before after → SameRegistrations before after
 nothing_leaves writes commit before after none whole = record {
   names = λ name. (whole.others (key_of (row.Name name)) (free (key_of (row.Name name)))).stands;
   registrations = λ registration number. (whole.others (key_of (row.Registration registration)) (free (key_of (row.Registration registration)))).stands;
-  parts = λ part registration node number small. whole.others (key_of (part_name part registration node)) (free (key_of (part_name part registration node)));
+  patterns = λ registration node number small. whole.others (key_of (row.Pattern registration node)) (free (key_of (row.Pattern registration node)));
 }
   where
     free : (key : Key) → write_at writes key ≡ None
     free key = ap (λ ws. write_at ws key) none
 
+-- a worker writes none of these rows
+pub work_leaves_registrations : (start : ℕ) (answers : List Answer) (writes : List Write) (commit : ℕ) (before after : Rows) → IsWorkerPlan start answers writes → StandsWhole writes commit before after → SameRegistrations before after
+work_leaves_registrations start answers writes commit before after work whole = record {
+  names = λ name. (whole.others (key_of (row.Name name)) (work_leaves start answers writes (row.Name name) work tt (λ other e. cc) (λ registration node cells e. cc))).stands;
+  registrations = λ registration number. (whole.others (key_of (row.Registration registration)) (work_leaves start answers writes (row.Registration registration) work number (λ other e. cc) (λ registration node cells e. cc))).stands;
+  patterns = λ registration node number small. whole.others (key_of (row.Pattern registration node))
+      (work_leaves start answers writes (row.Pattern registration node) work (number, small) (λ other e. cc) (λ registration node cells e. cc));
+}
+
 -- A registration has read that nothing has its name, and its rows are locked since. Its own row has nothing but what it
 -- has written itself.
 pub plan_registers : (start : ℕ) (answers : List Answer) (writes : List Write) (name : List ℕ) (tree : Tree) (commit : ℕ) (before after : Rows) → IsRegisterPlan start answers writes name tree → StandsWhole writes commit before after →
-    ((key : Key) (write : Write) → write_at writes key ≡ Some write → IsOld before start key) → Reads before start answers → (IsRegistration start → IsOwnRow start (before (key_of (row.Registration start)))) → Registers before after start name tree commit
+    ((key : Key) (write : Write) → write_at writes key ≡ Some write → IsOld before start key) → Reads before start answers → (1 ≤ start → IsRegistration start → IsOwnRow start (before (key_of (row.Registration start)))) → Registers before after start name tree commit
 plan_registers start answers writes name tree commit before after plan whole old reads own = record {
   number = plan.number;
   of_query = plan.of_query;
   whole = subst (λ ws. StandsWhole ws commit before after) plan.writes_are whole;
   unnamed = sym (old (key_of (row.Name name)) _ (ap (λ ws. write_at ws (key_of (row.Name name))) plan.writes_are ∙ name_written start name tree)).seen_then ∙ unseen;
-  new = ap (λ versions. put_of (newest versions)) (its.read ∙ own_is_empty start (before (key_of (row.Registration start))).versions (own plan.number).versions its.unwritten);
+  new = ap (λ versions. put_of (newest versions)) (its.read ∙ own_is_empty start (before (key_of (row.Registration start))).versions (own plan.first plan.number).versions its.unwritten);
 }
   where
     unseen : seen before (key_of (row.Name name)) start ≡ None
@@ -197,44 +220,95 @@ plan_registers start answers writes name tree commit before after plan whole old
     its = old (key_of (row.Registration start)) _ (ap (λ ws. write_at ws (key_of (row.Registration start))) plan.writes_are ∙ own_written start name tree)
 
 registered_whole : (start : ℕ) (answers : List Answer) (writes : List Write) (commit : ℕ) (before after : Rows) → HasPlan start answers writes → StandsWhole writes commit before after →
-    ((key : Key) (write : Write) → write_at writes key ≡ Some write → IsOld before start key) → Reads before start answers → (IsRegistration start → IsOwnRow start (before (key_of (row.Registration start)))) → RegistrationsStand before → RegistrationsStand after
+    ((key : Key) (write : Write) → write_at writes key ≡ Some write → IsOld before start key) → Reads before start answers → (1 ≤ start → IsRegistration start → IsOwnRow start (before (key_of (row.Registration start)))) → RegistrationsStand before → RegistrationsStand after
 registered_whole start answers writes commit before after (inl none) whole old reads own stand = registrations_stay before after (nothing_leaves writes commit before after none whole) stand
 registered_whole start answers writes commit before after (inr (inl load)) whole old reads own stand =
     registrations_stay before after (load_leaves (absent_of load.0 answers) commit before after (absent_all IsTriple load.0 answers load.1.load.valid) (subst (λ ws. StandsWhole ws commit before after) load.1.writes_are whole)) stand
-registered_whole start answers writes commit before after (inr (inr register)) whole old reads own stand =
+registered_whole start answers writes commit before after (inr (inr (inr work))) whole old reads own stand = registrations_stay before after (work_leaves_registrations start answers writes commit before after work whole) stand
+registered_whole start answers writes commit before after (inr (inr (inl register))) whole old reads own stand =
     registrations_join before after start register.0 register.1 commit (plan_registers start answers writes register.0 register.1 commit before after register.2 whole old reads own) stand
 
--- a triple's task is written with the triple
-triple_origins : (start : ℕ) (answers : List Answer) (writes : List Write) (commit : ℕ) (before after : Rows) → HasPlan start answers writes → StandsWhole writes commit before after → TasksHaveOrigins before →
+-- ---- tasks
+
+-- what a worker's own task had
+own_outlasts : (number commit start : ℕ) (answers : List Answer) (writes : List Write) (before after : Rows) (name : TaskName) (origin : Key) → number ≤ commit → AreBelow number before → StandsWhole writes commit before after →
+    ((key : Key) (write : Write) → write_at writes key ≡ Some write → IsOld before start key) → Reads before start answers → IsOwnTask start answers writes name → write_at writes origin ≡ None →
+    HasOrigin before (key_of (row.Task name)) origin → HasOrigin after (key_of (row.Task name)) origin
+own_outlasts number commit start answers writes before after name origin le below whole old reads own free is = by (standing before (key_of (row.Task name))) refl
+  where
+    stood : option_map (λ (put : Put). put.0) (standing before (key_of (row.Task name))) ≡ Some own.cursor
+    stood = ap (option_map (λ (put : Put). put.0)) (sym (old (key_of (row.Task name)) _ own.written).seen_then) ∙ value_read start before answers (row.Task name) own.cursor reads own.read
+
+    by : (found : Option Put) → standing before (key_of (row.Task name)) ≡ found → HasOrigin after (key_of (row.Task name)) origin
+    by None e = absurd (let clash : None ≡ Some own.cursor = ap (option_map (λ (put : Put). put.0)) (sym e) ∙ stood in cc)
+    by (Some put) e = origin_outlasts number commit before after (key_of (row.Task name)) origin put own.moved le below whole.earlier
+        (whole.written (key_of (row.Task name)) _ own.written) (whole.others origin free) e
+        (let lt = standing_below number before (key_of (row.Task name)) put below e in omega (arith, lt, le)) is
+
+-- a triple's task is written with the triple, or by a worker that had read it
+triple_origins : (number commit start : ℕ) (answers : List Answer) (writes : List Write) (before after : Rows) → number ≤ commit → AreBelow number before → HasPlan start answers writes → StandsWhole writes commit before after →
+    ((key : Key) (write : Write) → write_at writes key ≡ Some write → IsOld before start key) → Reads before start answers → TasksHaveOrigins before →
     (triple : Triple) → IsTriple triple → HasOrigin after (mark_key as_task triple) (mark_key (by_order Spo) triple)
-triple_origins start answers writes commit before after plan whole origins triple valid = by its.is (its.each as_task) (its.each (by_order Spo))
+triple_origins number commit start answers writes before after le below plan whole old reads origins triple valid = by plan
   where
-    its : WritesWhole writes triple
-    its = writes_whole start answers writes triple plan valid
+    stays : write_at writes (mark_key as_task triple) ≡ None → write_at writes (mark_key (by_order Spo) triple) ≡ None → HasOrigin after (mark_key as_task triple) (mark_key (by_order Spo) triple)
+    stays e e' = origin_stays before after (mark_key as_task triple) (mark_key (by_order Spo) triple) (whole.others (mark_key as_task triple) e) (whole.others (mark_key (by_order Spo) triple) e') (origins.triples triple valid)
 
-    by : (b : Bool) → write_at writes (mark_key as_task triple) ≡ written_by b (mark_key as_task triple) → write_at writes (mark_key (by_order Spo) triple) ≡ written_by b (mark_key (by_order Spo) triple) →
+    together : (b : Bool) → write_at writes (mark_key as_task triple) ≡ written_by b (mark_key as_task triple) → write_at writes (mark_key (by_order Spo) triple) ≡ written_by b (mark_key (by_order Spo) triple) →
         HasOrigin after (mark_key as_task triple) (mark_key (by_order Spo) triple)
-    by true e e' = origin_written before after (mark_key as_task triple) (mark_key (by_order Spo) triple) [] [] commit whole.earlier
+    together true e e' = origin_written before after (mark_key as_task triple) (mark_key (by_order Spo) triple) [] [] commit whole.earlier
         (whole.written (mark_key as_task triple) _ e) (whole.written (mark_key (by_order Spo) triple) _ e') (origins.triples triple valid)
-    by false e e' = origin_stays before after (mark_key as_task triple) (mark_key (by_order Spo) triple)
-        (whole.others (mark_key as_task triple) e) (whole.others (mark_key (by_order Spo) triple) e') (origins.triples triple valid)
+    together false e e' = stays e e'
 
-origins_whole : (start : ℕ) (answers : List Answer) (writes : List Write) (commit : ℕ) (before after : Rows) → HasPlan start answers writes → StandsWhole writes commit before after →
-    ((key : Key) (write : Write) → write_at writes key ≡ Some write → IsOld before start key) → Reads before start answers → (IsRegistration start → IsOwnRow start (before (key_of (row.Registration start)))) → RegistrationsStand before → TasksHaveOrigins before → TasksHaveOrigins after
-origins_whole start answers writes commit before after plan whole old reads own stand origins = record {
-  triples = triple_origins start answers writes commit before after plan whole origins;
-  backfills = by plan;
-}
+    marked : (load : (triples : List Triple) × IsLoadPlan start answers writes triples) (mark : Mark) → write_at writes (mark_key mark triple) ≡ written_by (is_among triple (absent_of load.0 answers)) (mark_key mark triple)
+    marked load mark = ap (λ ws. write_at ws (mark_key mark triple)) load.1.writes_are ∙ mark_written (absent_of load.0 answers) mark triple (absent_all IsTriple load.0 answers load.1.load.valid) valid
+
+    unmarked : (register : (name : List ℕ) × (tree : Tree) × IsRegisterPlan start answers writes name tree) (mark : Mark) → write_at writes (mark_key mark triple) ≡ None
+    unmarked register mark = ap (λ ws. write_at ws (mark_key mark triple)) register.2.writes_are ∙ mark_unwritten start register.0 register.1 mark triple register.2.number register.2.of_query valid
+
+    free : IsWorkerPlan start answers writes → write_at writes (mark_key (by_order Spo) triple) ≡ None
+    free work = work_leaves start answers writes (row.Triple Spo triple) work valid (λ other e. cc) (λ registration node cells e. cc)
+
+    works : IsWorkerPlan start answers writes → (write_at writes (mark_key as_task triple) ≡ None) ⊎ IsOwnTask start answers writes (task.Triple triple) → HasOrigin after (mark_key as_task triple) (mark_key (by_order Spo) triple)
+    works work (inl none) = stays none (free work)
+    works work (inr own) = own_outlasts number commit start answers writes before after (task.Triple triple) (mark_key (by_order Spo) triple) le below whole old reads own (free work) (origins.triples triple valid)
+
+    by : HasPlan start answers writes → HasOrigin after (mark_key as_task triple) (mark_key (by_order Spo) triple)
+    by (inl none) = stays (ap (λ ws. write_at ws (mark_key as_task triple)) none) (ap (λ ws. write_at ws (mark_key (by_order Spo) triple)) none)
+    by (inr (inl load)) = together (is_among triple (absent_of load.0 answers)) (marked load as_task) (marked load (by_order Spo))
+    by (inr (inr (inl register))) = stays (unmarked register as_task) (unmarked register (by_order Spo))
+    by (inr (inr (inr work))) = works work (own_task start answers writes (task.Triple triple) work valid (λ registration node cells e. cc) (λ registration cells e. cc))
+
+-- and that of a backfill with its pattern's row
+backfill_origins : (number commit start : ℕ) (answers : List Answer) (writes : List Write) (before after : Rows) → number ≤ commit → AreBelow number before → HasPlan start answers writes → StandsWhole writes commit before after →
+    ((key : Key) (write : Write) → write_at writes key ≡ Some write → IsOld before start key) → Reads before start answers → (1 ≤ start → IsRegistration start → IsOwnRow start (before (key_of (row.Registration start)))) → TasksHaveOrigins before →
+    (registration node : ℕ) → IsRegistration registration → IsNode node → HasOrigin after (key_of (row.Task (task.Backfill registration node))) (key_of (row.Pattern registration node))
+backfill_origins number commit start answers writes before after le below plan whole old reads own origins registration node numbered small = by plan
   where
-    stay : SameRegistrations before after → (registration node : ℕ) → IsRegistration registration → IsNode node → HasOrigin after (key_of (row.Task (task.Backfill registration node))) (key_of (row.Pattern registration node))
-    stay same registration node number small = origin_stays before after (key_of (part_name as_backfill registration node)) (key_of (part_name as_pattern registration node))
-        (same.parts as_backfill registration node number small) (same.parts as_pattern registration node number small) (origins.backfills registration node number small)
+    stays : SameStanding before after (key_of (row.Task (task.Backfill registration node))) → SameStanding before after (key_of (row.Pattern registration node)) →
+        HasOrigin after (key_of (row.Task (task.Backfill registration node))) (key_of (row.Pattern registration node))
+    stays same same' = origin_stays before after (key_of (row.Task (task.Backfill registration node))) (key_of (row.Pattern registration node)) same same' (origins.backfills registration node numbered small)
 
-    by : HasPlan start answers writes → (registration node : ℕ) → IsRegistration registration → IsNode node → HasOrigin after (key_of (row.Task (task.Backfill registration node))) (key_of (row.Pattern registration node))
-    by (inl none) = stay (nothing_leaves writes commit before after none whole)
-    by (inr (inl load)) = stay (load_leaves (absent_of load.0 answers) commit before after (absent_all IsTriple load.0 answers load.1.load.valid) (subst (λ ws. StandsWhole ws commit before after) load.1.writes_are whole))
-    by (inr (inr register)) = λ registration node number small.
-        backfill_joins before after start register.0 register.1 commit registration node (plan_registers start answers writes register.0 register.1 commit before after register.2 whole old reads own) number small origins
+    pattern : SameRegistrations before after → SameStanding before after (key_of (row.Pattern registration node))
+    pattern same = same.patterns registration node numbered small
+
+    free : IsWorkerPlan start answers writes → write_at writes (key_of (row.Pattern registration node)) ≡ None
+    free work = work_leaves start answers writes (row.Pattern registration node) work (numbered, small) (λ other e. cc) (λ registration node cells e. cc)
+
+    works : IsWorkerPlan start answers writes → (write_at writes (key_of (row.Task (task.Backfill registration node))) ≡ None) ⊎ IsOwnTask start answers writes (task.Backfill registration node) →
+        HasOrigin after (key_of (row.Task (task.Backfill registration node))) (key_of (row.Pattern registration node))
+    works work (inl none) = stays (whole.others (key_of (row.Task (task.Backfill registration node))) none) (whole.others (key_of (row.Pattern registration node)) (free work))
+    works work (inr its) = own_outlasts number commit start answers writes before after (task.Backfill registration node) (key_of (row.Pattern registration node)) le below whole old reads its (free work) (origins.backfills registration node numbered small)
+
+    by : HasPlan start answers writes → HasOrigin after (key_of (row.Task (task.Backfill registration node))) (key_of (row.Pattern registration node))
+    by (inl none) = stays (whole.others (key_of (row.Task (task.Backfill registration node))) (ap (λ ws. write_at ws (key_of (row.Task (task.Backfill registration node)))) none)) (pattern (nothing_leaves writes commit before after none whole))
+    by (inr (inl load)) =
+        let valid = absent_all IsTriple load.0 answers load.1.load.valid in
+        let stand = subst (λ ws. StandsWhole ws commit before after) load.1.writes_are whole in
+        stays (load_leaves_backfills (absent_of load.0 answers) commit before after valid stand registration node numbered small) (pattern (load_leaves (absent_of load.0 answers) commit before after valid stand))
+    by (inr (inr (inl register))) =
+        backfill_joins before after start register.0 register.1 commit registration node (plan_registers start answers writes register.0 register.1 commit before after register.2 whole old reads own) numbered small origins
+    by (inr (inr (inr work))) = works work (own_task start answers writes (task.Backfill registration node) work (numbered, small) (λ other number cells e. cc) (λ other cells e. cc))
 
 -- ---- each move
 
@@ -264,7 +338,7 @@ prewrite_fit number rows actor others write plan may consistent fit =
     (apart_locked rows write.key _ (lock_of write actor.start (primary_of actor.transaction)) consistent.own.0.start refl refl fit.apart)
   where
     can : CanWrite number actor.start write
-    can = can_write number actor.start actor.answers actor.transaction.writes write consistent.older.0.below.start plan
+    can = can_write number actor.start rows actor.answers actor.transaction.writes write consistent.older.0.below.start fit.decodes consistent.sound.0.reads plan
         (distinct_are_there actor.transaction.writes actor.transaction.prewritten write consistent.sound.0.transacts.distinct may.next)
 
     holds : HoldsVersions number can.name (rows write.key)
@@ -321,9 +395,9 @@ forward_fit number rows actor others recovery commit may consistent fit =
     lower = let found = version_of_start (λ version. nat_lt version.commit number) recovery.lock.start commit (rows recovery.lock.primary).versions (consistent.below.versions recovery.lock.primary) known in
         let lt = ltb-true found.0.commit number found.3 in let same = found.2 in omega arith
 
-plain_fit : (number : ℕ) (rows : Rows) (actor : Actor) (others : List Actor) (key : Key) (plain : Plain) → IsClockPlain key plain →
+clock_fit : (number : ℕ) (rows : Rows) (actor : Actor) (others : List Actor) (key : Key) (plain : Plain) → IsClockPlain key plain →
     IsConsistent (record { number = number; rows = rows; actors = actor ∷ others }) → Fit number rows → Fit number (rows_after (WritePlain key plain) actor rows)
-plain_fit number rows actor others key plain is consistent fit =
+clock_fit number rows actor others key plain is consistent fit =
     assembled number rows actor others (WritePlain key plain) refl tt consistent fit
     (decodes_put number rows key (updated (rows key) (SetPlain plain)) fit.decodes (λ some. record {
       name = row.Clock;
@@ -337,8 +411,29 @@ plain_fit number rows actor others key plain is consistent fit =
     clock : Rattle.pcj_fit.specs.Rows.IsClockRow (rows key)
     clock = subst (λ k. Rattle.pcj_fit.specs.Rows.IsClockRow (rows k)) (sym is.0) (row_of_name number rows row.Clock fit.decodes tt)
 
+export_fit : (number : ℕ) (rows : Rows) (actor : Actor) (others : List Actor) (key : Key) (plain : Plain) → IsExport actor.start actor.answers (rows key).plain key plain →
+    IsConsistent (record { number = number; rows = rows; actors = actor ∷ others }) → Fit number rows → Fit number (rows_after (WritePlain key plain) actor rows)
+export_fit number rows actor others key plain is consistent fit =
+    assembled number rows actor others (WritePlain key plain) refl tt consistent fit
+    (decodes_put number rows key (updated (rows key) (SetPlain plain)) fit.decodes (λ some. record {
+      name = row.Export is.registration is.cells;
+      valid = is.read.valid;
+      granted = granted_read number actor.start rows actor.answers (row.Task (task.Export is.registration is.cells)) is.cursor fit.decodes consistent.sound.0.reads is.read;
+      is = is.row_is;
+      holds = record { lock = held.lock; versions = held.versions; line = (subst (IsGranted number) (sym is.number_is) (is.first, consistent.older.0.below.start), export_line is.cells, is.line_is) };
+    }))
+    (apart_kept rows _ (same_versions rows key (updated (rows key) (SetPlain plain)) (λ lock e. e) refl) fit.apart)
+  where
+    held : Rattle.pcj_fit.specs.Rows.IsExportRow number (rows key)
+    held = subst (λ k. Rattle.pcj_fit.specs.Rows.IsExportRow number (rows k)) (sym is.row_is) (row_of_name number rows (row.Export is.registration is.cells) fit.decodes is.read.valid)
+
+plain_fit : (number : ℕ) (rows : Rows) (actor : Actor) (others : List Actor) (key : Key) (plain : Plain) → MayWritePlain actor.start actor.answers (rows key).plain key plain →
+    IsConsistent (record { number = number; rows = rows; actors = actor ∷ others }) → Fit number rows → Fit number (rows_after (WritePlain key plain) actor rows)
+plain_fit number rows actor others key plain (inl is) consistent fit = clock_fit number rows actor others key plain is consistent fit
+plain_fit number rows actor others key plain (inr is) consistent fit = export_fit number rows actor others key plain is consistent fit
+
 others_fit : (number : ℕ) (rows : Rows) (actor : Actor) (others : List Actor) (move : Move) → is_primary_commit move ≡ false → HasPlan actor.start actor.answers actor.transaction.writes →
-    IsConsistent (record { number = number; rows = rows; actors = actor ∷ others }) → IsAllowed move number rows actor → WritesOnly IsClockPlain move → Fit number rows → Fit (number_after move number) (rows_after move actor rows)
+    IsConsistent (record { number = number; rows = rows; actors = actor ∷ others }) → IsAllowed move number rows actor → WritesOnly MayWritePlain rows actor move → Fit number rows → Fit (number_after move number) (rows_after move actor rows)
 others_fit number rows actor others (Plan writes) other plan consistent may plains fit = fit
 others_fit number rows actor others (Prewrite write) other plan consistent may plains fit = prewrite_fit number rows actor others write plan may consistent fit
 others_fit number rows actor others (Draw commit) other plan consistent may plains fit = record {
@@ -367,17 +462,25 @@ others_fit number rows actor others (WritePlain key plain) other plan consistent
 
 -- ---- the last commit
 
+-- the row of a registration with an actor's number is its own
+pub its_own : (low : ℕ) (rows : Rows) (actor : Actor) → IsFrom low actor → AreOwnFrom low rows → 1 ≤ actor.start → IsRegistration actor.start → IsOwnRow actor.start (rows (key_of (row.Registration actor.start)))
+its_own low rows actor (inl none) own first numbered = absurd (omega (arith, none, first))
+its_own low rows actor (inr le) own first numbered = own actor.start le numbered
+
 last_fit : (low number : ℕ) (rows : Rows) (actor : Actor) (others : List Actor) (write : Write) (commit : ℕ) → HasPlan actor.start actor.answers actor.transaction.writes → IsLast number rows actor others write commit →
-    low ≤ actor.start → AreOwnFrom low rows → Fit number rows → Fit (suc commit) (acted rows write.key (commit_act write actor.start commit))
-last_fit low number rows actor others write commit plan last le own fit = record {
+    IsFrom low actor → AreOwnFrom low rows → Fit number rows → Fit (suc commit) (acted rows write.key (commit_act write actor.start commit))
+last_fit low number rows actor others write commit plan last from own fit = record {
   decodes = decodes_replaced (suc commit) rows write.key lock commit (decodes_later number (suc commit) rows (omega arith) fit.decodes) locked (omega arith);
   times = after.times;
   named = after.named;
   once = after.once;
   apart = apart_committed number rows write.key lock commit last.draws.granted last.consistent.below locked none last.consistent.own.0.start fit.times.first fit.apart;
   atomic = atomic_whole actor.start actor.answers actor.transaction.writes commit rows _ plan whole fit.atomic;
-  registered = registered_whole actor.start actor.answers actor.transaction.writes commit rows _ plan whole (λ key write is. old key write is) last.consistent.sound.0.reads (λ numbered. own actor.start le numbered) fit.registered;
-  origins = origins_whole actor.start actor.answers actor.transaction.writes commit rows _ plan whole (λ key write is. old key write is) last.consistent.sound.0.reads (λ numbered. own actor.start le numbered) fit.registered fit.origins;
+  registered = registered_whole actor.start actor.answers actor.transaction.writes commit rows _ plan whole (λ key write is. old key write is) last.consistent.sound.0.reads (its_own low rows actor from own) fit.registered;
+  origins = record {
+    triples = triple_origins number commit actor.start actor.answers actor.transaction.writes rows _ last.draws.granted last.consistent.below plan whole (λ key write is. old key write is) last.consistent.sound.0.reads fit.origins;
+    backfills = backfill_origins number commit actor.start actor.answers actor.transaction.writes rows _ last.draws.granted last.consistent.below plan whole (λ key write is. old key write is) last.consistent.sound.0.reads (its_own low rows actor from own) fit.origins;
+  };
 }
   where
     drawn : Actor
@@ -418,9 +521,9 @@ abbrev pub FitFrom : ℕ → ℕ → Rows → Type 0
 FitFrom low number rows = Fit number rows × AreOwnFrom low rows
 
 abbrev pub PlanFrom : ℕ → ℕ → List Answer → List Write → Type 0
-PlanFrom low start answers writes = HasPlan start answers writes × (low ≤ start)
+PlanFrom low start answers writes = HasPlan start answers writes × ((start ≡ 0) ⊎ (low ≤ start))
 
-pub fit_is_kept : (low : ℕ) → IsKept (FitFrom low) (PlanFrom low) IsClockPlain
+pub fit_is_kept : (low : ℕ) → IsKept (FitFrom low) (PlanFrom low) MayWritePlain
 fit_is_kept low = record {
   others = λ number rows actor others move other plan consistent may plains fit. (
     others_fit number rows actor others move other plan.0 consistent may plains fit.0,

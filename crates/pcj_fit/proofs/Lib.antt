@@ -2,6 +2,9 @@ pub mod RowLemmas
 pub mod NumberLemmas
 pub mod OldLemmas
 pub mod WriteLemmas
+pub mod EachLemmas
+pub mod TimeLemmas
+pub mod WorkerLemmas
 pub mod RegisterLemmas
 pub mod RegisteredLemmas
 pub mod PlanLemmas
@@ -12,5 +15,6 @@ pub mod PutLemmas
 pub mod TripleLemmas
 pub mod QueryLemmas
 pub mod StepLemmas
+pub mod WorkLemmas
 pub mod TableTriples
 pub mod TableQueries

@@ -30,6 +30,7 @@ use Rattle.pcj_fit.specs.Plans.{HasPlan, absent_of, load_writes, registration_wr
 use Rattle.pcj_fit.specs.Rows.{Decodes}
 use Rattle.pcj_fit.proofs.PlanLemmas.{Mark, absent_all, as_task, by_order, load_names, mark_name}
 use Rattle.pcj_fit.proofs.RegisterLemmas.{register_names}
+use Rattle.pcj_fit.proofs.WorkerLemmas.{work_leaves}
 use Rattle.pcj_fit.proofs.WriteLemmas.{none_written}
 
 -- ---- one row
@@ -69,7 +70,8 @@ writes_own start answers writes write registration plan number e same = by plan
     by (inl none) = unwritten [] none refl
     by (inr (inl load)) = unwritten (load_writes (absent_of load.0 answers)) load.1.writes_are (none_written (load_writes (absent_of load.0 answers)) (row.Registration registration) number
         (load_names (λ n. n ≢ row.Registration registration) (absent_of load.0 answers) (absent_all Rattle.pcj_encode.specs.Name.IsTriple load.0 answers load.1.load.valid) not_marked))
-    by (inr (inr register)) = by_number start registration (λ is. is)
+    by (inr (inr (inr work))) = unwritten writes refl (work_leaves start answers writes (row.Registration registration) work number (λ other clash. cc) (λ registration node cells clash. cc))
+    by (inr (inr (inl register))) = by_number start registration (λ is. is)
         (λ differs. unwritten (registration_writes start register.0 register.1) register.2.writes_are (none_written (registration_writes start register.0 register.1) (row.Registration registration) number
         (register_names (λ n. n ≢ row.Registration registration) start register.0 register.1 register.2.number register.2.of_query (λ clash. cc) (λ clash. differs (cc)) (λ node clash. cc) (λ node clash. cc))))
 

@@ -21,11 +21,15 @@ use Rattle.pcj_encode.specs.Name.{IsName, IsRegistration, IsTriple, key_of}
 use Rattle.pcj_tree.specs.declared.tree.Tree.{Tree}
 use Rattle.pcj_moves.specs.declared.answer.Answer.{Answer}
 use Rattle.pcj_moves.specs.declared.answer.Answer.TheVariants.{OfRange, OfRow}
+use Rattle.pcj_mvcc.specs.Reading.{Rows}
+use Rattle.pcj_moves.specs.Reads.{Reads}
 use Rattle.pcj_moves.specs.Transactions.{are_distinct, write_at}
 use Rattle.pcj_fit.specs.Names.{IsGranted, IsTermGranted, IsTripleGranted}
 use Rattle.pcj_fit.specs.Plans.{HasPlan, IsOfLoad, IsTripleOfLoad, absent_of, load_writes, put_mark, registration_writes}
 use Rattle.pcj_fit.specs.Registrations.{IsQueryTree}
+use Rattle.pcj_fit.specs.Rows.{Decodes}
 use Rattle.pcj_fit.proofs.RegisterLemmas.{can_register, register_names}
+use Rattle.pcj_fit.proofs.WorkerLemmas.{can_work, work_leaves}
 use Rattle.pcj_fit.proofs.WriteLemmas.{CanWrite, EachWrite, IsNamed, found_is, none_written}
 
 -- ---- the rows that are written for a triple
@@ -174,21 +178,22 @@ absent_once (triple ∷ triples) (OfRange after end found ∷ answers) once = ab
 
 -- ---- plans
 
-pub can_write : (next start : ℕ) (answers : List Answer) (writes : List Write) (write : Write) → start < next → HasPlan start answers writes → write_at writes write.key ≡ Some write → CanWrite next start write
-can_write next start answers writes write lt (inl none) e = absurd (let clash : None ≡ Some write = ap (λ ws. write_at ws write.key) (sym none) ∙ e in cc)
-can_write next start answers writes write lt (inr (inl load)) e =
+pub can_write : (next start : ℕ) (rows : Rows) (answers : List Answer) (writes : List Write) (write : Write) → start < next → Decodes next rows → Reads rows start answers → HasPlan start answers writes → write_at writes write.key ≡ Some write → CanWrite next start write
+can_write next start rows answers writes write lt decodes reads (inl none) e = absurd (let clash : None ≡ Some write = ap (λ ws. write_at ws write.key) (sym none) ∙ e in cc)
+can_write next start rows answers writes write lt decodes reads (inr (inl load)) e =
     found_is (CanWrite next start) (load_writes (absent_of load.0 answers)) write.key write
     (can_load next start (absent_of load.0 answers) (load.1.load.first, lt) (absent_all IsTriple load.0 answers load.1.load.valid) (absent_all (IsTripleOfLoad start) load.0 answers load.1.load.own))
     (ap (λ ws. write_at ws write.key) (sym load.1.writes_are) ∙ e)
-can_write next start answers writes write lt (inr (inr register)) e =
+can_write next start rows answers writes write lt decodes reads (inr (inr (inl register))) e =
     found_is (CanWrite next start) (registration_writes start register.0 register.1) write.key write
     (can_register next start register.0 register.1 (register.2.first, lt) register.2.number register.2.of_query)
     (ap (λ ws. write_at ws write.key) (sym register.2.writes_are) ∙ e)
+can_write next start rows answers writes write lt decodes reads (inr (inr (inr work))) e = can_work next start rows answers writes write lt decodes reads work e
 
--- of a triple all its rows are written, or none
+-- of a triple all three rows are written, or none
 pub record WritesWhole (writes : List Write) (triple : Triple) : Type 0 where
   pub is : Bool
-  pub each : (mark : Mark) → write_at writes (mark_key mark triple) ≡ written_by is (mark_key mark triple)
+  pub each : (order : Order) → write_at writes (mark_key (by_order order) triple) ≡ written_by is (mark_key (by_order order) triple)
 
 -- a registration writes none of them
 pub mark_unwritten : (registration : ℕ) (name : List ℕ) (tree : Tree) (mark : Mark) (triple : Triple) → IsRegistration registration → IsQueryTree tree → IsTriple triple →
@@ -201,14 +206,18 @@ mark_unwritten registration name tree as_task triple number is valid =
     (register_names (λ other. other ≢ row.Task (task.Triple triple)) registration name tree number is (λ e. cc) (λ e. cc) (λ node e. cc) (λ node e. cc))
 
 pub writes_whole : (start : ℕ) (answers : List Answer) (writes : List Write) (triple : Triple) → HasPlan start answers writes → IsTriple triple → WritesWhole writes triple
-writes_whole start answers writes triple (inl none) valid = record { is = false; each = λ mark. ap (λ ws. write_at ws (mark_key mark triple)) none }
+writes_whole start answers writes triple (inl none) valid = record { is = false; each = λ order. ap (λ ws. write_at ws (mark_key (by_order order) triple)) none }
 writes_whole start answers writes triple (inr (inl load)) valid = record {
   is = is_among triple (absent_of load.0 answers);
-  each = λ mark. ap (λ ws. write_at ws (mark_key mark triple)) load.1.writes_are ∙ mark_written (absent_of load.0 answers) mark triple (absent_all IsTriple load.0 answers load.1.load.valid) valid;
+  each = λ order. ap (λ ws. write_at ws (mark_key (by_order order) triple)) load.1.writes_are ∙ mark_written (absent_of load.0 answers) (by_order order) triple (absent_all IsTriple load.0 answers load.1.load.valid) valid;
 }
-writes_whole start answers writes triple (inr (inr register)) valid = record {
+writes_whole start answers writes triple (inr (inr (inl register))) valid = record {
   is = false;
-  each = λ mark. ap (λ ws. write_at ws (mark_key mark triple)) register.2.writes_are ∙ mark_unwritten start register.0 register.1 mark triple register.2.number register.2.of_query valid;
+  each = λ order. ap (λ ws. write_at ws (mark_key (by_order order) triple)) register.2.writes_are ∙ mark_unwritten start register.0 register.1 (by_order order) triple register.2.number register.2.of_query valid;
+}
+writes_whole start answers writes triple (inr (inr (inr work))) valid = record {
+  is = false;
+  each = λ order. work_leaves start answers writes (row.Triple order triple) work valid (λ other e. cc) (λ registration node cells e. cc);
 }
 
 -- a load writes no other rows

@@ -10,7 +10,7 @@ use Rattle.pcj_table.specs.Table.{Key}
 use Rattle.pcj_key.proofs.Keys.{injective}
 use Rattle.pcj_encode.proofs.Numbers.{registration_again}
 use Rattle.pcj_encode.specs.declared.key_name.KeyName.TheVariants as row
-use Rattle.pcj_encode.specs.Name.{IsRegistration, key_of, registration_part}
+use Rattle.pcj_encode.specs.Name.{key_of, registration_part}
 use Rattle.pcj_tree.specs.declared.tree.Tree.{Tree}
 use Rattle.pcj_tree.specs.Read.{IsStorable}
 use Rattle.pcj_tree.specs.Stored.{stored_tree}
@@ -33,7 +33,8 @@ use Rattle.pcj_fit.specs.Queries.{Ascend, HasQueries, IsValidRegistration, Regis
 use Rattle.pcj_fit.specs.QueryLaws.{LoadsLeaveQueries, MovesLeaveQueries, NamesAreDistinct, ReadNamesAreKnown, RegistrationsAddTheirs}
 use Rattle.pcj_fit.specs.Registrations.{IsQueryTree, IsRegistered, RegistrationsStand, registration_value}
 use Rattle.pcj_fit.specs.Sound.{Sound}
-use Rattle.pcj_fit.proofs.FitLemmas.{load_leaves, plan_registers}
+use Rattle.pcj_fit.proofs.FitLemmas.{its_own, load_leaves, plan_registers}
+use Rattle.pcj_fit.proofs.EachLemmas.{each_of, of_each}
 use Rattle.pcj_fit.proofs.OldLemmas.{IsOld, written_is_old}
 use Rattle.pcj_fit.proofs.PlanLemmas.{absent_all}
 use Rattle.pcj_fit.proofs.PutLemmas.{seen_stands}
@@ -41,18 +42,6 @@ use Rattle.pcj_fit.proofs.RegisteredLemmas.{Registers, SameRegistrations, new_st
 use Rattle.pcj_fit.proofs.SoundLemmas.{sound_is_fit}
 
 -- ---- lists of registrations
-
-pub each_of : {X : Type 0} (P : X → Type 0) (xs : List X) → ((x : X) → Contains xs x → P x) → All P xs
-each_of P [] each = All-nil P
-each_of P (x ∷ xs) each = All-cons P x xs (each x (first_there x xs)) (each_of P xs (λ y there. each y (later_there x xs y there)))
-
-pub of_each : {X : Type 0} (P : X → Type 0) (xs : List X) (x : X) → All P xs → Contains xs x → P x
-of_each P [] x all there = absurd (nothing_in x there)
-of_each P (first ∷ xs) x all there = by (first_or_later first xs x there) (of_each P xs x (All-tail P first xs all))
-  where
-    by : (first ≡ x) ⊎ Contains xs x → (Contains xs x → P x) → P x
-    by (inl same) rest = subst P same (All-head P first xs all)
-    by (inr later) rest = rest later
 
 pub all_added : (P : Registration → Type 0) (new : Registration) (known : List Registration) → P new → All P known → All P (added new known)
 all_added P new [] is all = All-cons P new [] is all
@@ -191,7 +180,7 @@ read_names_are_known number rows actor others name value known read sound has = 
 
 -- ---- where nothing of a registration is written
 
-queries_stay : (before after : Rows) (known : List Registration) → SameRegistrations before after → HasQueries before known → HasQueries after known
+pub queries_stay : (before after : Rows) (known : List Registration) → SameRegistrations before after → HasQueries before known → HasQueries after known
 queries_stay before after known same has = record {
   valid = has.valid;
   ascend = has.ascend;
@@ -218,7 +207,7 @@ its_registration : (number : ℕ) (rows : Rows) (actor : Actor) (others : List A
 its_registration number rows actor others write commit name tree plan may sound =
     plan_registers actor.start actor.answers actor.transaction.writes name tree commit rows (rows_after (CommitPrimary write commit) actor rows) plan
     (one_move_changes number rows actor others (CommitPrimary write commit) may sound.consistent) (λ key other is. old key other is) sound.consistent.sound.0.reads
-    (λ numbered. sound.own actor.start sound.later.0 numbered)
+    (its_own sound.low rows actor sound.later.0 sound.own)
   where
     at : AtPrimary rows actor.start actor.transaction write commit
     at = at_primary rows actor.start actor.transaction write (its_first rows actor write commit may).0 commit sound.consistent.times sound.consistent.sound.0.transacts (its_first rows actor write commit may).1 may.drawn may.undone may.allowed

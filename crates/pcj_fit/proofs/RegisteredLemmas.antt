@@ -26,13 +26,13 @@ use Rattle.pcj_fit.proofs.WriteLemmas.{none_written}
 pub record SameRegistrations (before after : Rows) : Type 0 where
   pub names : (name : List ℕ) → standing after (key_of (row.Name name)) ≡ standing before (key_of (row.Name name))
   pub registrations : (registration : ℕ) → IsRegistration registration → standing after (key_of (row.Registration registration)) ≡ standing before (key_of (row.Registration registration))
-  pub parts : (part : Part) (registration node : ℕ) → IsRegistration registration → IsNode node → SameStanding before after (key_of (part_name part registration node))
+  pub patterns : (registration node : ℕ) → IsRegistration registration → IsNode node → SameStanding before after (key_of (row.Pattern registration node))
 
 pub same_reading : (before after : Rows) → versions_read after ≡ versions_read before → SameRegistrations before after
 same_reading before after same = record {
   names = λ name. (stays (key_of (row.Name name))).stands;
   registrations = λ registration number. (stays (key_of (row.Registration registration))).stands;
-  parts = λ part registration node number small. stays (key_of (part_name part registration node));
+  patterns = λ registration node number small. stays (key_of (row.Pattern registration node));
 }
   where
     stays : (key : Key) → SameStanding before after key
@@ -44,7 +44,7 @@ registered_same before after registration name tree commit same is = record {
   of_query = is.of_query;
   named = same.names name ∙ is.named;
   stands = same.registrations registration is.number ∙ is.stands;
-  patterns = λ node small. (same.parts as_pattern registration node is.number small).stands ∙ is.patterns node small;
+  patterns = λ node small. (same.patterns registration node is.number small).stands ∙ is.patterns node small;
 }
 
 pub registrations_stay : (before after : Rows) → SameRegistrations before after → RegistrationsStand before → RegistrationsStand after
@@ -52,7 +52,7 @@ registrations_stay before after same stand = record {
   names = λ name put e. let was = stand.names name put (sym (same.names name) ∙ e) in (was.0, was.1, registered_same before after was.0 name was.1 put.1 same was.2);
   registrations = λ registration put number e. let was = stand.registrations registration put number (sym (same.registrations registration number) ∙ e) in (was.0, was.1, registered_same before after registration was.0 was.1 put.1 same was.2);
   patterns = λ registration node put number small e.
-      let was = stand.patterns registration node put number small (sym (same.parts as_pattern registration node number small).stands ∙ e) in (was.0, was.1, registered_same before after registration was.0 was.1 put.1 same was.2);
+      let was = stand.patterns registration node put number small (sym (same.patterns registration node number small).stands ∙ e) in (was.0, was.1, registered_same before after registration was.0 was.1 put.1 same was.2);
 }
 
 -- ---- tasks and their origins

@@ -1,5 +1,5 @@
 -- Every move keeps all sound.
-use Rattle.std.proofs.Common.{◌≡◌, inl, ◌≤◌, ℕ, suc, Bool, true, false, nat_lt, List, [], ◌∷◌, refl, ap, sym, subst, arith}
+use Rattle.std.proofs.Common.{◌≡◌, ◌⊎◌, inl, inr, ◌≤◌, ℕ, suc, Bool, true, false, nat_lt, List, [], ◌∷◌, IfSome, refl, ap, sym, subst, arith}
 use Rattle.std.proofs.lemmas.Bool.{and_from, lt-ltb}
 use Rattle.std.proofs.lemmas.List.Elements.{All-head, All-tail}
 use Rattle.std.specs.List.{All, list_all}
@@ -14,6 +14,7 @@ use Rattle.pcj_mvcc.proofs.Rows.{rows_alike}
 use Rattle.pcj_mvcc.specs.Choices.{Choice, IsChoice, under, with_commit}
 use Rattle.pcj_mvcc.specs.Reading.{Rows}
 use Rattle.pcj_moves.specs.Actors.{Actor, IsOlder, new_actor}
+use Rattle.pcj_moves.specs.Recoveries.{Recovery}
 use Rattle.pcj_moves.specs.ChoiceLaws.{IsRipeAt}
 use Rattle.pcj_moves.specs.Moves.{Begins, CommitNothing, CommitPrimary, CommitSecondary, Draw, DropPrimary, EndRecovery, Ends, IsAllowed, Learn, Meet, Move, NumbersAreOwn, Plan, Prewrite, Read, RollBack, RollForward, WritePlain, actor_after, number_after}
 use Rattle.pcj_moves.proofs.ConsistencyLemmas.{move_is_consistent}
@@ -21,28 +22,45 @@ use Rattle.pcj_moves.proofs.MoveLemmas.{comes_first, higher_is_consistent, step_
 use Rattle.pcj_moves.proofs.OrderLemmas.{actor_goes_back, each_apart, each_together}
 use Rattle.pcj_choices.proofs.ClaimLemmas.{WritesOnly, claim_begins, claim_ends, claim_first, claim_goes_back, claim_here, claim_is_kept}
 use Rattle.pcj_fit.specs.Fit.{Fit}
-use Rattle.pcj_fit.specs.Laws.{BackIsSound, BeginIsSound, EndIsSound, FirstIsSound, FitGrows, FitIsSound, HigherIsSound, MoveIsSound, SoundIsFit, WritesClock, state_of}
+use Rattle.pcj_fit.specs.Laws.{BackIsSound, BeginIsSound, EndIsSound, FirstIsSound, FitGrows, FitIsSound, HigherIsSound, MoveIsSound, SoundIsFit, WritesClock, WritesLine, state_of}
 use Rattle.pcj_fit.specs.Rows.{Decodes, IsDecoded, IsVersionOf}
-use Rattle.pcj_fit.specs.Sound.{IsClockPlain, IsPlanned}
+use Rattle.pcj_fit.specs.Sound.{HasMetGranted, IsFrom, IsPlanned, MayWritePlain}
 use Rattle.pcj_fit.proofs.FitLemmas.{FitFrom, PlanFrom, fit_is_kept}
 use Rattle.pcj_fit.proofs.OwnRowLemmas.{new_are_own, own_is_kept, own_under}
 use Rattle.pcj_fit.proofs.RowLemmas.{decodes_later, is_written, locked_row, to_versions, unwritten_versions}
 
-writes_only : (move : Move) → WritesClock move → WritesOnly IsClockPlain move
-writes_only (Plan writes) is = tt
-writes_only (Prewrite write) is = tt
-writes_only (Draw commit) is = tt
-writes_only (CommitPrimary write commit) is = tt
-writes_only (CommitSecondary write commit) is = tt
-writes_only (CommitNothing commit) is = tt
-writes_only (Read answer) is = tt
-writes_only (Meet key lock) is = tt
-writes_only (Learn recovery) is = tt
-writes_only (DropPrimary recovery) is = tt
-writes_only (RollBack recovery) is = tt
-writes_only (RollForward recovery commit) is = tt
-writes_only EndRecovery is = tt
-writes_only (WritePlain key plain) is = is
+-- what is written of the clock is one of the plain values that may be written
+pub clock_line : (rows : Rows) (actor : Actor) (move : Move) → WritesClock move → WritesLine rows actor move
+clock_line rows actor (Plan writes) is = tt
+clock_line rows actor (Prewrite write) is = tt
+clock_line rows actor (Draw commit) is = tt
+clock_line rows actor (CommitPrimary write commit) is = tt
+clock_line rows actor (CommitSecondary write commit) is = tt
+clock_line rows actor (CommitNothing commit) is = tt
+clock_line rows actor (Read answer) is = tt
+clock_line rows actor (Meet key lock) is = tt
+clock_line rows actor (Learn recovery) is = tt
+clock_line rows actor (DropPrimary recovery) is = tt
+clock_line rows actor (RollBack recovery) is = tt
+clock_line rows actor (RollForward recovery commit) is = tt
+clock_line rows actor EndRecovery is = tt
+clock_line rows actor (WritePlain key plain) is = inl is
+
+writes_only : (rows : Rows) (actor : Actor) (move : Move) → WritesLine rows actor move → WritesOnly MayWritePlain rows actor move
+writes_only rows actor (Plan writes) is = tt
+writes_only rows actor (Prewrite write) is = tt
+writes_only rows actor (Draw commit) is = tt
+writes_only rows actor (CommitPrimary write commit) is = tt
+writes_only rows actor (CommitSecondary write commit) is = tt
+writes_only rows actor (CommitNothing commit) is = tt
+writes_only rows actor (Read answer) is = tt
+writes_only rows actor (Meet key lock) is = tt
+writes_only rows actor (Learn recovery) is = tt
+writes_only rows actor (DropPrimary recovery) is = tt
+writes_only rows actor (RollBack recovery) is = tt
+writes_only rows actor (RollForward recovery commit) is = tt
+writes_only rows actor EndRecovery is = tt
+writes_only rows actor (WritePlain key plain) is = is
 
 numbers_rise : (number : ℕ) (rows : Rows) (actor : Actor) (move : Move) → IsAllowed move number rows actor → number ≤ number_after move number
 numbers_rise number rows actor (Plan writes) may = omega arith
@@ -77,16 +95,34 @@ same_start (RollForward recovery commit) rows actor = refl
 same_start EndRecovery rows actor = refl
 same_start (WritePlain key plain) rows actor = refl
 
+-- a lock that was met stands, and was set by a transaction that had begun
+met_after : (number : ℕ) (rows : Rows) (actor : Actor) (move : Move) → IsAllowed move number rows actor → Decodes number rows → HasMetGranted actor → HasMetGranted (actor_after move rows actor)
+met_after number rows actor (Plan writes) may decodes met = met
+met_after number rows actor (Prewrite write) may decodes met = met
+met_after number rows actor (Draw commit) may decodes met = met
+met_after number rows actor (CommitPrimary write commit) may decodes met = met
+met_after number rows actor (CommitSecondary write commit) may decodes met = met
+met_after number rows actor (CommitNothing commit) may decodes met = met
+met_after number rows actor (Read answer) may decodes met = met
+met_after number rows actor (Meet key lock) may decodes met = (locked_row number rows key lock decodes may.stands).its.start.0
+met_after number rows actor (Learn recovery) may decodes met = subst (λ r. IfSome r (λ (its : Recovery). 1 ≤ its.lock.start)) may.0 met
+met_after number rows actor (DropPrimary recovery) may decodes met = met
+met_after number rows actor (RollBack recovery) may decodes met = met
+met_after number rows actor (RollForward recovery commit) may decodes met = met
+met_after number rows actor EndRecovery may decodes met = tt
+met_after number rows actor (WritePlain key plain) may decodes met = met
+
 pub move_is_sound : MoveIsSound
 move_is_sound number rows actor others move may plains planned sound = record {
   consistent = move_is_consistent number rows actor others move may sound.consistent;
-  fit = λ choice is. (claim_is_kept (FitFrom sound.low) (PlanFrom sound.low) IsClockPlain (fit_is_kept sound.low) number rows actor others move (sound.planned.0, sound.later.0) may (writes_only move plains) sound.consistent
+  fit = λ choice is. (claim_is_kept (FitFrom sound.low) (PlanFrom sound.low) MayWritePlain (fit_is_kept sound.low) number rows actor others move (sound.planned.0, sound.later.0) may (writes_only rows actor move plains) sound.consistent
       (λ choice is. (sound.fit choice is, own_under sound.low choice rows sound.own)) choice is).0;
   planned = (planned, sound.planned.1);
   low = sound.low;
   since = let rise = numbers_rise number rows actor move may in let le = sound.since in omega (arith, rise, le);
   own = own_is_kept sound.low number rows actor others move sound.planned.0 sound.consistent may sound.own;
-  later = (subst (λ start. sound.low ≤ start) (sym (same_start move rows actor)) sound.later.0, sound.later.1);
+  later = (subst (λ start. (start ≡ 0) ⊎ (sound.low ≤ start)) (sym (same_start move rows actor)) sound.later.0, sound.later.1);
+  met = (met_after number rows actor move may (claim_here (Fit number) (IsRipeAt rows (actor ∷ others)) rows sound.fit).decodes sound.met.0, sound.met.1);
 }
 
 -- ---- actors that begin and end
@@ -112,6 +148,7 @@ higher_is_sound number more rows actors le sound = record {
   since = let since = sound.since in omega (arith, since, le);
   own = sound.own;
   later = sound.later;
+  met = sound.met;
 }
 
 pub begin_is_sound : BeginIsSound
@@ -122,7 +159,8 @@ begin_is_sound number start rows actors le sound = record {
   low = sound.low;
   since = let since = sound.since in omega (arith, since, le);
   own = sound.own;
-  later = ((let since = sound.since in omega (arith, since, le)), sound.later);
+  later = (inr (let since = sound.since in omega (arith, since, le)), sound.later);
+  met = (tt, sound.met);
 }
 
 pub end_is_sound : EndIsSound
@@ -134,6 +172,7 @@ end_is_sound number rows actor others sound = record {
   since = sound.since;
   own = sound.own;
   later = sound.later.1;
+  met = sound.met.1;
 }
 
 pub first_is_sound : FirstIsSound
@@ -144,7 +183,8 @@ first_is_sound number rows front actor back sound = record {
   low = sound.low;
   since = sound.since;
   own = sound.own;
-  later = each_apart (λ a. sound.low ≤ a.start) front actor back sound.later;
+  later = each_apart (IsFrom sound.low) front actor back sound.later;
+  met = each_apart HasMetGranted front actor back sound.met;
 }
 
 pub back_is_sound : BackIsSound
@@ -163,7 +203,8 @@ back_is_sound number rows front actor back sound = record {
   low = sound.low;
   since = sound.since;
   own = sound.own;
-  later = each_together (λ a. sound.low ≤ a.start) front actor back sound.later.0 sound.later.1;
+  later = each_together (IsFrom sound.low) front actor back sound.later.0 sound.later.1;
+  met = each_together HasMetGranted front actor back sound.met.0 sound.met.1;
 }
 
 -- ---- fit tables
@@ -205,6 +246,7 @@ fit_is_sound number rows fit = record {
   since = omega arith;
   own = new_are_own number rows fit.decodes;
   later = tt;
+  met = tt;
 }
   where
     none : (choice : Choice) → IsChoice (IsRipeAt rows []) choice → under choice rows ≡ rows

@@ -16,12 +16,12 @@ use Rattle.pcj_fit.specs.QueryLaws.{LoadStepLeavesQueries, RegisterStepLeavesTri
 use Rattle.pcj_fit.specs.Sound.{Sound}
 use Rattle.pcj_fit.specs.Triples.{HasTriples}
 use Rattle.pcj_fit.proofs.QueryLemmas.{loads_leave_queries, moves_leave_queries, registrations_add_theirs}
-use Rattle.pcj_fit.proofs.SoundLemmas.{move_is_sound}
+use Rattle.pcj_fit.proofs.SoundLemmas.{clock_line, move_is_sound}
 use Rattle.pcj_fit.proofs.TripleLemmas.{found_are_there, loads_add_triples, moves_leave_triples, registrations_leave_triples}
 
 after_one : (number : ℕ) (rows : Rows) (actor : Actor) (others : List Actor) (move : Move) → is_steady move ≡ true → WritesClock move → IsAllowed move number rows actor → Sound (state_of number rows (actor ∷ others)) →
     Sound (state_of (number_after move number) (rows_after move actor rows) (actor_after move rows actor ∷ others))
-after_one number rows actor others move steady plains may sound = move_is_sound number rows actor others move may plains (steady_has HasPlan move rows actor steady sound.planned.0) sound
+after_one number rows actor others move steady plains may sound = move_is_sound number rows actor others move may (clock_line rows actor move plains) (steady_has HasPlan move rows actor steady sound.planned.0) sound
 
 pub step_is_sound : StepIsSound
 step_is_sound [] number rows actor number' rows' actor' others steady makes sound =
@@ -55,7 +55,7 @@ stays_committed (move ∷ moves) number rows actor number' rows' actor' steady m
 -- ---- what the commit makes of a claim
 
 -- A claim that each move but the commit keeps, and another one that holds from then on, where the actor has this plan.
-record Turns (P : Purpose) (before after : Rows → Type 0) : Type 0 where
+pub record Turns (P : Purpose) (before after : Rows → Type 0) : Type 0 where
   pub kept : (number : ℕ) (rows : Rows) (actor : Actor) (others : List Actor) (move : Move) → is_primary_commit move ≡ false → IsAllowed move number rows actor →
       Sound (state_of number rows (actor ∷ others)) → before rows → before (rows_after move actor rows)
   pub kept_after : (number : ℕ) (rows : Rows) (actor : Actor) (others : List Actor) (move : Move) → is_primary_commit move ≡ false → IsAllowed move number rows actor →
@@ -116,7 +116,7 @@ step_keeps claim kept (move ∷ moves) number rows actor number' rows' actor' ot
         sym (stays_committed moves (number_after move number) (rows_after move actor rows) (actor_after move rows actor) number' rows' actor' steady.2 makes.1 done) ∙ same ∙ undone in cc)
 
 -- and those that commit make the other one of it
-step_turns : (P : Purpose) (before after : Rows → Type 0) → Turns P before after → (moves : List Move) (number : ℕ) (rows : Rows) (actor : Actor) (number' : ℕ) (rows' : Rows) (actor' : Actor) (others : List Actor) → AreSteady moves →
+pub step_turns : (P : Purpose) (before after : Rows → Type 0) → Turns P before after → (moves : List Move) (number : ℕ) (rows : Rows) (actor : Actor) (number' : ℕ) (rows' : Rows) (actor' : Actor) (others : List Actor) → AreSteady moves →
     Makes moves number rows actor number' rows' actor' → Sound (state_of number rows (actor ∷ others)) → Has P actor → actor.transaction.committed ≡ false → actor'.transaction.committed ≡ true → before rows → after rows'
 step_turns P before after turns [] number rows actor number' rows' actor' others steady makes sound plan undone done has =
     absurd (let clash : false ≡ true = sym undone ∙ ap (λ (a : Actor). a.transaction.committed) (sym makes.2) ∙ done in cc)

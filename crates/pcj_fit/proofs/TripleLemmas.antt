@@ -17,7 +17,7 @@ use Rattle.pcj_encode.specs.declared.key_name.KeyName.TheVariants as row
 use Rattle.pcj_encode.specs.Name.{IsTriple, key_of}
 use Rattle.pcj_rowtables.specs.Rows.{triple_key}
 use Rattle.pcj_oracle.specs.Clock.{clock_key}
-use Rattle.pcj_mvcc.specs.Reading.{Put, Rows, committed, put_of, reading, seen, standing, versions_read, with_lock}
+use Rattle.pcj_mvcc.specs.Reading.{Put, Rows, committed, put_of, reading, seen, standing, versions_read}
 use Rattle.pcj_moves.specs.declared.answer.Answer.{Answer}
 use Rattle.pcj_moves.specs.declared.answer.Answer.TheVariants.{OfRange, OfRow}
 use Rattle.pcj_moves.specs.Reads.{Reads, value_seen}
@@ -92,7 +92,7 @@ absent_is_its triples answers triple e =
 
 -- ---- triples of tables
 
-same_triples : (before after : Rows) (known : List Triple) → ((triple : Triple) → IsTriple triple → standing after (triple_key Spo triple) ≡ standing before (triple_key Spo triple)) → HasTriples before known → HasTriples after known
+pub same_triples : (before after : Rows) (known : List Triple) → ((triple : Triple) → IsTriple triple → standing after (triple_key Spo triple) ≡ standing before (triple_key Spo triple)) → HasTriples before known → HasTriples after known
 same_triples before after known same has = record {
   valid = has.valid;
   each = λ triple valid. (

@@ -12,7 +12,7 @@ use Rattle.pcj_choices.specs.UnderChoice.{is_primary_commit, is_steady}
 use Rattle.pcj_fit.specs.Fit.{Fit}
 use Rattle.pcj_fit.specs.Plans.{IsLoadPlan}
 use Rattle.pcj_fit.specs.Rows.{IsClockRow}
-use Rattle.pcj_fit.specs.Sound.{IsClockPlain, IsPlanned, Sound}
+use Rattle.pcj_fit.specs.Sound.{IsClockPlain, IsPlanned, MayWritePlain, Sound}
 use Rattle.pcj_fit.specs.Triples.{HasTriples}
 
 abbrev pub state_of : ℕ → Rows → List Actor → State
@@ -25,9 +25,14 @@ abbrev pub WritesClock : Move → Type 0
 WritesClock (WritePlain key plain) = IsClockPlain key plain
 WritesClock _ = Unit {0}
 
+-- or an exported line
+abbrev pub WritesLine : Rows → Actor → Move → Type 0
+WritesLine rows actor (WritePlain key plain) = MayWritePlain actor.start actor.answers (rows key).plain key plain
+WritesLine rows actor _ = Unit {0}
+
 -- a move of one actor, whoever the others are
 abbrev pub MoveIsSound : Type 0
-MoveIsSound = (number : ℕ) (rows : Rows) (actor : Actor) (others : List Actor) (move : Move) → IsAllowed move number rows actor → WritesClock move →
+MoveIsSound = (number : ℕ) (rows : Rows) (actor : Actor) (others : List Actor) (move : Move) → IsAllowed move number rows actor → WritesLine rows actor move →
     IsPlanned (actor_after move rows actor) → Sound (state_of number rows (actor ∷ others)) →
     Sound (state_of (number_after move number) (rows_after move actor rows) (actor_after move rows actor ∷ others))
 

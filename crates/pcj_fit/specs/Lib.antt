@@ -6,8 +6,10 @@ pub mod Origins
 pub mod Fit
 pub mod Triples
 pub mod Queries
+pub mod Workers
 pub mod Plans
 pub mod OwnRows
 pub mod Sound
 pub mod Laws
 pub mod QueryLaws
+pub mod WorkLaws

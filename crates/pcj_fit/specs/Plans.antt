@@ -17,6 +17,7 @@ use Rattle.pcj_tree.specs.declared.tree.Tree.{Tree}
 use Rattle.pcj_moves.specs.declared.answer.Answer.{Answer}
 use Rattle.pcj_moves.specs.declared.answer.Answer.TheVariants.{OfRange, OfRow}
 use Rattle.pcj_fit.specs.Registrations.{IsQueryTree, registration_value, value_of}
+use Rattle.pcj_fit.specs.Workers.{IsWorkerPlan}
 
 -- ---- loads
 
@@ -110,7 +111,10 @@ pub record IsRegisterPlan (start : ℕ) (answers : List Answer) (writes : List W
 
 -- ---- plans
 
--- an actor that writes nothing, a load, or a registration
+-- an actor that writes nothing, a load, a registration, or a worker
 abbrev pub HasPlan : ℕ → List Answer → List Write → Type 0
 HasPlan start answers writes =
-    (writes ≡ []) ⊎ (((triples : List Triple) × IsLoadPlan start answers writes triples) ⊎ ((name : List ℕ) × (tree : Tree) × IsRegisterPlan start answers writes name tree))
+    (writes ≡ [])
+    ⊎ (((triples : List Triple) × IsLoadPlan start answers writes triples)
+    ⊎ (((name : List ℕ) × (tree : Tree) × IsRegisterPlan start answers writes name tree)
+    ⊎ IsWorkerPlan start answers writes))

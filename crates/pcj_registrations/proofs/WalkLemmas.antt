@@ -34,7 +34,8 @@ use Rattle.pcj_fit.specs.Queries as fit
 use Rattle.pcj_fit.specs.Queries.{Ascend, HasQueries, IsValidRegistration, StandsAs}
 use Rattle.pcj_fit.specs.Registrations.{registration_value}
 use Rattle.pcj_fit.specs.Rows.{HoldsVersions}
-use Rattle.pcj_fit.proofs.QueryLemmas.{each_of, of_each, one_put, one_value, same_registration}
+use Rattle.pcj_fit.proofs.EachLemmas.{each_of, of_each}
+use Rattle.pcj_fit.proofs.QueryLemmas.{one_put, one_value, same_registration}
 use Rattle.pcj_fit.proofs.RowLemmas.{row_of_name}
 use Rattle.pcj_pending.specs.Pending.{IsFit}
 use Rattle.pcj_pending.proofs.WalkLemmas.{one_fewer, seen_walk}

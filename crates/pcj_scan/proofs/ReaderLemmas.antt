@@ -14,7 +14,7 @@ use Rattle.pcj_actor.proofs.ActorLemmas.{makes_then}
 use Rattle.pcj_fit.specs.Laws.{WritesClock, state_of}
 use Rattle.pcj_fit.specs.Sound.{Sound}
 use Rattle.pcj_fit.specs.Triples.{HasTriples}
-use Rattle.pcj_fit.proofs.SoundLemmas.{move_is_sound}
+use Rattle.pcj_fit.proofs.SoundLemmas.{clock_line, move_is_sound}
 use Rattle.pcj_fit.proofs.TripleLemmas.{moves_leave_triples}
 use Rattle.pcj_scan.specs.Readers.{AreReaderMoves, IsReader, IsReaderMove, ReadsInPart, ReadsOn, with_answers}
 
@@ -62,7 +62,7 @@ moves_keep [] at rows actor at' rows' actor' others are makes nothing sound =
 moves_keep (move ∷ moves) at rows actor at' rows' actor' others are makes nothing sound =
     let is = leaves move at rows actor are.0 in
     let none = is.transaction ∙ nothing in
-    let after = move_is_sound at rows actor others move makes.0 is.clock (inl (ap (λ t. t.writes) none)) sound in
+    let after = move_is_sound at rows actor others move makes.0 (clock_line rows actor move is.clock) (inl (ap (λ t. t.writes) none)) sound in
     let changed = is.reading (one_move_changes at rows actor others move makes.0 sound.consistent) in
     let rest = moves_keep moves (number_after move at) (rows_after move actor rows) (actor_after move rows actor) at' rows' actor' others are.1 makes.1 none after in
     record {
