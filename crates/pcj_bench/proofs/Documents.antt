@@ -14,7 +14,7 @@ use Rattle.pcj_encode.specs.Name.{IsTriple}
 use Rattle.pcj_oracle.specs.declared.block.Block.{Block}
 use Rattle.pcj_oracle.specs.Clock.{IsClock, next_number}
 use Rattle.pcj_oracle.specs.Draw.{IsNumber}
-use Rattle.pcj_fit.specs.Plans.{IsLoad, IsOfLoad, IsTripleOfLoad}
+use Rattle.pcj_rows.specs.Plans.{IsLoad, IsOfLoad, IsTripleOfLoad}
 use Rattle.pcj_bench.proofs.Distinct.{distinct_are_once}
 
 next_from_one : (oracle : Option Block) (table : Table) → IsClock oracle table → 1 ≤ next_number oracle table

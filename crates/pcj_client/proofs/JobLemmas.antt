@@ -15,8 +15,8 @@ use Rattle.pcj_txn.specs.Progress.{new_progress as new_txn}
 use Rattle.pcj_actor.specs.Progress.{IsAnswerOf, Progress, new_progress, transaction_of, with_held, with_task}
 use Rattle.pcj_actor.specs.declared.task.Task.{Task}
 use Rattle.pcj_actor.specs.declared.task.Task.TheVariants.{Rest, Get, Next, Put, Write as Writes}
-use Rattle.pcj_fit.specs.Plans.{AreReadOf, IsLoad, absent_by, absent_of, load_writes, triple_writes}
-use Rattle.pcj_fit.proofs.PlanLemmas.{absent_all, absent_once, load_distinct}
+use Rattle.pcj_rows.specs.Plans.{AreReadOf, IsLoad, absent_by, absent_of, load_writes, triple_writes}
+use Rattle.pcj_rows.proofs.PlanLemmas.{absent_all, absent_once, load_distinct}
 use Rattle.pcj_encode.specs.Name.{IsTriple}
 use Rattle.pcj_client.specs.Job.{IsAtWork, IsTask, is_found, kept_writes}
 

@@ -14,10 +14,10 @@ use Rattle.pcj_actor.specs.declared.event.ActorEvent.TheVariants as event
 use Rattle.pcj_actor.specs.declared.task.Task.{Task}
 use Rattle.pcj_actor.specs.declared.task.Task.TheVariants.{Rest, Get, Next, Put, Write as Writes}
 use Rattle.pcj_actor.specs.Progress.{Carries, IsOfStart, Progress, Tells, is_recovery, transaction_of}
-use Rattle.pcj_fit.specs.Plans.{IsLoadPlan}
+use Rattle.pcj_rows.specs.Plans.{IsLoadPlan}
 use Rattle.pcj_fit.specs.Queries.{HasQueries, Registration}
 use Rattle.pcj_fit.specs.Sound.{IsPlanned, Sound}
-use Rattle.pcj_fit.specs.Triples.{HasTriples}
+use Rattle.pcj_rows.specs.Triples.{HasTriples}
 use Rattle.pcj_fit.proofs.StepLemmas.{load_step_leaves_queries, step_adds_triples, step_leaves_queries, step_leaves_triples}
 use Rattle.pcj_client.specs.Job.{GoesOn, HasCome, HasStepped, IsAtWork, IsBusy, IsLoadJob, IsTask, Loads, job_of, writing_of}
 use Rattle.pcj_client.specs.Events.{IsNamed, IsTold, event_of, queries_after, triples_after}

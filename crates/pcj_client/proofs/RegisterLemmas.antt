@@ -25,14 +25,14 @@ use Rattle.pcj_actor.specs.declared.event.ActorEvent.TheVariants as event
 use Rattle.pcj_actor.specs.declared.task.Task.{Task}
 use Rattle.pcj_actor.specs.declared.task.Task.TheVariants.{Rest, Get, Next, Put, Write as Writes}
 use Rattle.pcj_actor.specs.Progress.{Carries, IsAnswerOf, IsOfStart, Progress, Tells, is_recovery, new_progress, transaction_of, with_held, with_recovered, with_task, with_txn}
-use Rattle.pcj_fit.specs.Plans.{IsRegisterPlan, registration_writes}
+use Rattle.pcj_rows.specs.Plans.{IsRegisterPlan, registration_writes}
 use Rattle.pcj_fit.specs.Queries.{HasQueries, Registration, added}
 use Rattle.pcj_fit.specs.QueryLaws.{registration_of}
-use Rattle.pcj_fit.specs.Registrations.{IsQueryTree}
+use Rattle.pcj_rows.specs.Registrations.{IsQueryTree}
 use Rattle.pcj_fit.specs.Sound.{IsPlanned, Sound}
-use Rattle.pcj_fit.specs.Triples.{HasTriples}
+use Rattle.pcj_rows.specs.Triples.{HasTriples}
 use Rattle.pcj_fit.proofs.QueryLemmas.{read_names_are_known}
-use Rattle.pcj_fit.proofs.RegisterLemmas.{registration_distinct}
+use Rattle.pcj_rows.proofs.RegisterLemmas.{registration_distinct}
 use Rattle.pcj_fit.proofs.StepLemmas.{register_step_leaves_triples, step_adds_query, step_leaves_queries, step_leaves_triples}
 use Rattle.pcj_client.specs.Begun.{MayBegin, begins, begun, left}
 use Rattle.pcj_client.specs.Job.{Content, GoesOn, HasReadName, HasRegistered, IsRegisterJob, IsRegisterTask, IsRegistering, Registers, has_found, job_of, writing_of}

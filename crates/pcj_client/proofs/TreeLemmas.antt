@@ -4,8 +4,8 @@ use Rattle.pcj_algebra.specs.declared.query.Query.{Query}
 use Rattle.pcj_tree.specs.declared.tree.Tree.{Tree}
 use Rattle.pcj_tree.specs.Laws.{HasStorableTree}
 use Rattle.pcj_tree.specs.Tree.{IsTree}
-use Rattle.pcj_fit.specs.Registrations.{IsQueryTree}
-use Rattle.pcj_fit.proofs.RegisterLemmas.{tree_fits}
+use Rattle.pcj_rows.specs.Registrations.{IsQueryTree}
+use Rattle.pcj_rows.proofs.RegisterLemmas.{tree_fits}
 
 -- the tree of a query that can be stored
 pub query_tree : (query : Query) (tree : Tree) → HasStorableTree query → IsTree query tree → IsQueryTree tree

@@ -22,7 +22,7 @@ use Rattle.pcj_fit.specs.Laws.{WritesClock}
 use Rattle.pcj_fit.specs.Queries.{HasQueries, Registration, added}
 use Rattle.pcj_fit.specs.QueryLaws.{registration_of}
 use Rattle.pcj_fit.specs.Sound.{Sound}
-use Rattle.pcj_fit.specs.Triples.{HasTriples}
+use Rattle.pcj_rows.specs.Triples.{HasTriples}
 use Rattle.std.specs.List.{All, Contains}
 use Rattle.pcj_client.specs.Job.{Content, Job, Loads, Registers, finds_name}
 use Rattle.pcj_client.specs.declared.event.JobEvent.{JobEvent}

@@ -25,8 +25,8 @@ use Rattle.pcj_actor.specs.Progress.{IsAnswerOf, with_held, with_met, with_recov
 use Rattle.pcj_encode.specs.Name.{IsRegistration, key_of}
 use Rattle.pcj_encode.specs.declared.key_name.KeyName.TheVariants as row
 use Rattle.pcj_tree.specs.declared.tree.Tree.{Tree}
-use Rattle.pcj_fit.specs.Plans.{AreReadOf, IsLoad, IsLoadPlan, IsRegisterPlan, absent_of, load_writes, registration_writes, triple_writes}
-use Rattle.pcj_fit.specs.Registrations.{IsQueryTree}
+use Rattle.pcj_rows.specs.Plans.{AreReadOf, IsLoad, IsLoadPlan, IsRegisterPlan, absent_of, load_writes, registration_writes, triple_writes}
+use Rattle.pcj_rows.specs.Registrations.{IsQueryTree}
 
 -- what a job is for: triples to load, or a query to register, by its name and the tree of its nodes
 pub data Content : Type 0 where

@@ -9,7 +9,7 @@ ghost use Rattle.pcj_moves.specs.Actors.{new_actor};
 ghost use Rattle.std.specs.Option.{option_copied};
 ghost use Rattle.pcj_actor.specs.declared.event.ActorEvent.TheVariants.{Answered};
 ghost use Rattle.pcj_actor.specs.Progress.{MakesUpTo, Progress};
-ghost use Rattle.pcj_fit.specs.Plans.{IsLoad};
+ghost use Rattle.pcj_rows.specs.Plans.{IsLoad};
 ghost use Rattle.pcj_fit.specs.Queries.{Registration};
 ghost use Rattle.pcj_client.specs.Job.{IsAtWork, IsBusy, IsJob, IsLoadJob, Loads, HasStepped, GoesOn, is_found, kept_writes, loaded, writing_of};
 ghost use Rattle.pcj_client.specs.Events.{IsDrawing, IsMoved, IsTold, CommitsOnce, KeepsAllSound, LeavesQueries, LeavesTriples, StepsOn, job_calls, triples_after, event_of, job_event};

@@ -4,8 +4,8 @@ ghost use Rattle.pcj_encode.specs.declared.key_name.KeyName.TheVariants as row;
 ghost use Rattle.pcj_encode.specs.declared.task_name.TaskName.TheVariants as task;
 ghost use Rattle.pcj_encode.specs.Name.{key_of, registration_part};
 ghost use Rattle.pcj_tree.specs.Stored.{slot_part};
-ghost use Rattle.pcj_fit.specs.Plans.{nodes_writes, pattern_writes, put_mark, put_value, registration_writes};
-ghost use Rattle.pcj_fit.specs.Registrations.{registration_value, value_of};
+ghost use Rattle.pcj_rows.specs.Plans.{nodes_writes, pattern_writes, put_mark, put_value, registration_writes};
+ghost use Rattle.pcj_rows.specs.Registrations.{registration_value, value_of};
 
 use crate::writes::put_mark;
 use pcj_algebra::TriplePattern;

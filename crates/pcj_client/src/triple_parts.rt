@@ -3,7 +3,7 @@ ghost use Rattle.pcj_encode.specs.declared.order.Order.TheVariants.{Spo, Pos, Os
 ghost use Rattle.pcj_term.specs.declared.triple.Triple.{Triple};
 ghost use Rattle.pcj_term.specs.Term.{printed};
 ghost use Rattle.pcj_rowtables.specs.Rows.{triple_key};
-ghost use Rattle.pcj_fit.specs.Plans.{task_key};
+ghost use Rattle.pcj_rows.specs.Plans.{task_key};
 ghost use Rattle.pcj_client.specs.Keys.{IsPartsOf, part_of};
 
 use pcj_key::join_parts;

@@ -1,7 +1,7 @@
 ghost use Rattle.std.specs.Prelude.{◌≡◌, ◌++◌, IfOk, OnOk, OnErr};
 ghost use Rattle.pcj_encode.specs.declared.order.Order.TheVariants.{Spo};
 ghost use Rattle.pcj_rowtables.specs.Rows.{triple_key};
-ghost use Rattle.pcj_fit.specs.Plans.{put_mark, triple_writes};
+ghost use Rattle.pcj_rows.specs.Plans.{put_mark, triple_writes};
 ghost use Rattle.pcj_client.specs.Keys.{IsPartsOf};
 
 use crate::triple_parts::TripleParts;

@@ -12,7 +12,7 @@ use Rattle.pcj_txn.specs.declared.error.TxnError.TheVariants as txn_error
 use Rattle.pcj_txn.specs.Errors.{MakesOneCall}
 use Rattle.pcj_actor.specs.Progress.{MakesUpTo}
 use Rattle.pcj_fit.specs.Queries.{HasQueries, Registration, added}
-use Rattle.pcj_fit.specs.Triples.{HasTriples}
+use Rattle.pcj_rows.specs.Triples.{HasTriples}
 use Rattle.pcj_moves.specs.Actors.{Actor}
 use Rattle.pcj_client.specs.Job.{Content, Job, Loads, Registers, loaded}
 use Rattle.pcj_client.specs.Events.{joined, queries_after, triples_after}

@@ -9,7 +9,7 @@ use Rattle.pcj_actor.specs.StepLaws.{state_of}
 use Rattle.pcj_fit.specs.Laws as fit
 use Rattle.pcj_fit.specs.Queries.{HasQueries, Registration}
 use Rattle.pcj_fit.specs.Sound.{Sound}
-use Rattle.pcj_fit.specs.Triples.{HasTriples}
+use Rattle.pcj_rows.specs.Triples.{HasTriples}
 use Rattle.pcj_client.specs.Job.{IsJob, Job, loaded}
 use Rattle.pcj_client.specs.Events as job_law
 use Rattle.pcj_client.specs.Events.{CommitsOnce, IsDrawing, IsMoved, IsTold, LeavesQueries, LeavesTriples, StepsOn, job_calls, queries_after, triples_after}

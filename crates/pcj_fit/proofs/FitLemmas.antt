@@ -43,32 +43,33 @@ use Rattle.pcj_moves.proofs.WriteLemmas.{distinct_are_there, undrawn_is_undone}
 use Rattle.pcj_choices.specs.ChoiceLaws.{IsLast}
 use Rattle.pcj_choices.specs.UnderChoice.{is_primary_commit}
 use Rattle.pcj_choices.proofs.ClaimLemmas.{IsKept, WritesOnly, reads_the_same}
-use Rattle.pcj_fit.specs.Fit.{AtomicRows, Fit, NumbersApart}
-use Rattle.pcj_fit.specs.Origins.{HasOrigin, TasksHaveOrigins}
-use Rattle.pcj_fit.specs.OwnRows.{AreOwnFrom, IsOwnRow}
-use Rattle.pcj_fit.specs.Plans.{HasPlan, IsLoadPlan, IsRegisterPlan, absent_of, load_writes}
-use Rattle.pcj_fit.specs.Registrations.{RegistrationsStand}
-use Rattle.pcj_fit.specs.Rows.{Decodes, HoldsVersions, IsVersionOf}
-use Rattle.pcj_fit.specs.Names.{IsGranted}
+use Rattle.pcj_rows.specs.Triples.{AtomicRows}
+use Rattle.pcj_fit.specs.Fit.{Fit, NumbersApart}
+use Rattle.pcj_rows.specs.Origins.{HasOrigin, TasksHaveOrigins}
+use Rattle.pcj_rows.specs.OwnRows.{AreOwnFrom, IsOwnRow}
+use Rattle.pcj_rows.specs.Plans.{HasPlan, IsLoadPlan, IsRegisterPlan, absent_of, load_writes}
+use Rattle.pcj_rows.specs.Registrations.{RegistrationsStand}
+use Rattle.pcj_rows.specs.Rows.{Decodes, HoldsVersions, IsVersionOf}
+use Rattle.pcj_rows.specs.Names.{IsGranted}
 use Rattle.pcj_fit.specs.Sound.{IsClockPlain, IsFrom, MayWritePlain}
-use Rattle.pcj_fit.specs.Workers.{IsExport, IsWorkerPlan, export_line}
+use Rattle.pcj_rows.specs.Workers.{IsExport, IsWorkerPlan, export_line}
 use Rattle.pcj_fit.proofs.NumberLemmas.{apart_committed, apart_kept, apart_locked}
-use Rattle.pcj_fit.proofs.OwnRowLemmas.{own_is_empty, own_is_kept, own_replaced}
-use Rattle.pcj_fit.proofs.OldLemmas.{IsOld, written_is_old}
-use Rattle.pcj_fit.proofs.RegisterLemmas.{as_backfill, as_pattern, name_written, own_written, part_name}
-use Rattle.pcj_fit.proofs.RegisteredLemmas.{Registers, SameRegistrations, backfill_joins, origin_stays, origin_written, registrations_join, registrations_stay, same_reading}
-use Rattle.pcj_fit.proofs.WriteLemmas.{CanWrite, none_written}
-use Rattle.pcj_fit.proofs.TimeLemmas.{standing_below}
-use Rattle.pcj_fit.proofs.WorkerLemmas.{IsOwnTask, granted_read, origin_outlasts, own_task, value_read, work_leaves}
-use Rattle.pcj_fit.proofs.PlanLemmas.{Mark, absent_all, as_task, by_order, can_write, is_among, load_names, mark_key, mark_name, mark_unwritten, mark_written, writes_whole, written_by}
-use Rattle.pcj_fit.proofs.RowLemmas.{all_with_version, decodes_later, decodes_put, from_versions, locked_row, row_of_name, to_versions}
+use Rattle.pcj_rows.proofs.OwnRowLemmas.{own_is_empty, own_is_kept, own_replaced}
+use Rattle.pcj_rows.proofs.OldLemmas.{IsOld, written_is_old}
+use Rattle.pcj_rows.proofs.RegisterLemmas.{as_backfill, as_pattern, name_written, own_written, part_name}
+use Rattle.pcj_rows.proofs.RegisteredLemmas.{Registers, SameRegistrations, backfill_joins, origin_stays, origin_written, registrations_join, registrations_stay, same_reading}
+use Rattle.pcj_rows.proofs.WriteLemmas.{CanWrite, none_written}
+use Rattle.pcj_rows.proofs.TimeLemmas.{standing_below}
+use Rattle.pcj_rows.proofs.WorkerLemmas.{IsOwnTask, granted_read, origin_outlasts, own_task, value_read, work_leaves}
+use Rattle.pcj_rows.proofs.PlanLemmas.{Mark, absent_all, as_task, by_order, can_write, is_among, load_names, mark_key, mark_name, mark_unwritten, mark_written, writes_whole, written_by}
+use Rattle.pcj_rows.proofs.RowLemmas.{all_with_version, decodes_later, decodes_put, from_versions, locked_row, row_of_name, to_versions}
 
 -- ---- the row of a write, and of a lock
 
 -- what its row holds
 row_of_write : (next start : ℕ) (rows : Rows) (write : Write) → Decodes next rows → (can : CanWrite next start write) → HoldsVersions next can.name (rows write.key)
 row_of_write next start rows write decodes can =
-    to_versions next can.name (rows write.key) can.written (subst (λ k. Rattle.pcj_fit.specs.Rows.IsRowOf next can.name (rows k)) (sym can.is) (row_of_name next rows can.name decodes can.valid))
+    to_versions next can.name (rows write.key) can.written (subst (λ k. Rattle.pcj_rows.specs.Rows.IsRowOf next can.name (rows k)) (sym can.is) (row_of_name next rows can.name decodes can.valid))
 
 -- the row with something else, of the same name
 written_row : (next start : ℕ) (rows : Rows) (write : Write) (found : Row) → Decodes next rows → (can : CanWrite next start write) → HoldsVersions next can.name found → Decodes next (put rows write.key found)
@@ -408,8 +409,8 @@ clock_fit number rows actor others key plain is consistent fit =
     }))
     (apart_kept rows _ (same_versions rows key (updated (rows key) (SetPlain plain)) (λ lock e. e) refl) fit.apart)
   where
-    clock : Rattle.pcj_fit.specs.Rows.IsClockRow (rows key)
-    clock = subst (λ k. Rattle.pcj_fit.specs.Rows.IsClockRow (rows k)) (sym is.0) (row_of_name number rows row.Clock fit.decodes tt)
+    clock : Rattle.pcj_rows.specs.Rows.IsClockRow (rows key)
+    clock = subst (λ k. Rattle.pcj_rows.specs.Rows.IsClockRow (rows k)) (sym is.0) (row_of_name number rows row.Clock fit.decodes tt)
 
 export_fit : (number : ℕ) (rows : Rows) (actor : Actor) (others : List Actor) (key : Key) (plain : Plain) → IsExport actor.start actor.answers (rows key).plain key plain →
     IsConsistent (record { number = number; rows = rows; actors = actor ∷ others }) → Fit number rows → Fit number (rows_after (WritePlain key plain) actor rows)
@@ -424,8 +425,8 @@ export_fit number rows actor others key plain is consistent fit =
     }))
     (apart_kept rows _ (same_versions rows key (updated (rows key) (SetPlain plain)) (λ lock e. e) refl) fit.apart)
   where
-    held : Rattle.pcj_fit.specs.Rows.IsExportRow number (rows key)
-    held = subst (λ k. Rattle.pcj_fit.specs.Rows.IsExportRow number (rows k)) (sym is.row_is) (row_of_name number rows (row.Export is.registration is.cells) fit.decodes is.read.valid)
+    held : Rattle.pcj_rows.specs.Rows.IsExportRow number (rows key)
+    held = subst (λ k. Rattle.pcj_rows.specs.Rows.IsExportRow number (rows k)) (sym is.row_is) (row_of_name number rows (row.Export is.registration is.cells) fit.decodes is.read.valid)
 
 plain_fit : (number : ℕ) (rows : Rows) (actor : Actor) (others : List Actor) (key : Key) (plain : Plain) → MayWritePlain actor.start actor.answers (rows key).plain key plain →
     IsConsistent (record { number = number; rows = rows; actors = actor ∷ others }) → Fit number rows → Fit number (rows_after (WritePlain key plain) actor rows)

@@ -28,17 +28,17 @@ use Rattle.pcj_moves.proofs.StepLemmas.{AtPrimary, at_primary}
 use Rattle.pcj_choices.proofs.ClaimLemmas.{reads_the_same}
 use Rattle.pcj_fit.specs.Fit.{Fit}
 use Rattle.pcj_fit.specs.Laws.{state_of}
-use Rattle.pcj_fit.specs.Plans.{IsRegisterPlan, absent_of}
+use Rattle.pcj_rows.specs.Plans.{IsRegisterPlan, absent_of}
 use Rattle.pcj_fit.specs.Queries.{Ascend, HasQueries, IsValidRegistration, Registration, StandsAs, added}
 use Rattle.pcj_fit.specs.QueryLaws.{LoadsLeaveQueries, MovesLeaveQueries, NamesAreDistinct, ReadNamesAreKnown, RegistrationsAddTheirs}
-use Rattle.pcj_fit.specs.Registrations.{IsQueryTree, IsRegistered, RegistrationsStand, registration_value}
+use Rattle.pcj_rows.specs.Registrations.{IsQueryTree, IsRegistered, RegistrationsStand, registration_value}
 use Rattle.pcj_fit.specs.Sound.{Sound}
 use Rattle.pcj_fit.proofs.FitLemmas.{its_own, load_leaves, plan_registers}
-use Rattle.pcj_fit.proofs.EachLemmas.{each_of, of_each}
-use Rattle.pcj_fit.proofs.OldLemmas.{IsOld, written_is_old}
-use Rattle.pcj_fit.proofs.PlanLemmas.{absent_all}
-use Rattle.pcj_fit.proofs.PutLemmas.{seen_stands}
-use Rattle.pcj_fit.proofs.RegisteredLemmas.{Registers, SameRegistrations, new_stands, other_registrations, same_reading}
+use Rattle.pcj_rows.proofs.EachLemmas.{each_of, of_each}
+use Rattle.pcj_rows.proofs.OldLemmas.{IsOld, written_is_old}
+use Rattle.pcj_rows.proofs.PlanLemmas.{absent_all}
+use Rattle.pcj_rows.proofs.PutLemmas.{seen_stands}
+use Rattle.pcj_rows.proofs.RegisteredLemmas.{Registers, SameRegistrations, new_stands, other_registrations, same_reading}
 use Rattle.pcj_fit.proofs.SoundLemmas.{sound_is_fit}
 
 -- ---- lists of registrations

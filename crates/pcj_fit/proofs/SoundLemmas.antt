@@ -23,11 +23,11 @@ use Rattle.pcj_moves.proofs.OrderLemmas.{actor_goes_back, each_apart, each_toget
 use Rattle.pcj_choices.proofs.ClaimLemmas.{WritesOnly, claim_begins, claim_ends, claim_first, claim_goes_back, claim_here, claim_is_kept}
 use Rattle.pcj_fit.specs.Fit.{Fit}
 use Rattle.pcj_fit.specs.Laws.{BackIsSound, BeginIsSound, EndIsSound, FirstIsSound, FitGrows, FitIsSound, HigherIsSound, MoveIsSound, SoundIsFit, WritesClock, WritesLine, state_of}
-use Rattle.pcj_fit.specs.Rows.{Decodes, IsDecoded, IsVersionOf}
+use Rattle.pcj_rows.specs.Rows.{Decodes, IsDecoded, IsVersionOf}
 use Rattle.pcj_fit.specs.Sound.{HasMetGranted, IsFrom, IsPlanned, MayWritePlain}
 use Rattle.pcj_fit.proofs.FitLemmas.{FitFrom, PlanFrom, fit_is_kept}
-use Rattle.pcj_fit.proofs.OwnRowLemmas.{new_are_own, own_is_kept, own_under}
-use Rattle.pcj_fit.proofs.RowLemmas.{decodes_later, is_written, locked_row, to_versions, unwritten_versions}
+use Rattle.pcj_rows.proofs.OwnRowLemmas.{new_are_own, own_is_kept, own_under}
+use Rattle.pcj_rows.proofs.RowLemmas.{decodes_later, is_written, locked_row, to_versions, unwritten_versions}
 
 -- what is written of the clock is one of the plain values that may be written
 pub clock_line : (rows : Rows) (actor : Actor) (move : Move) → WritesClock move → WritesLine rows actor move

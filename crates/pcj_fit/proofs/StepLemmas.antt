@@ -10,11 +10,11 @@ use Rattle.pcj_moves.specs.Moves.{CommitNothing, CommitPrimary, CommitSecondary,
 use Rattle.pcj_choices.specs.UnderChoice.{is_primary_commit, is_steady}
 use Rattle.pcj_choices.proofs.ClaimLemmas.{Has, Purpose, steady_has}
 use Rattle.pcj_fit.specs.Laws.{AreSteady, StepAddsTriples, StepIsSound, StepLeavesTriples, WritesClock, state_of}
-use Rattle.pcj_fit.specs.Plans.{HasPlan, IsLoadPlan, IsRegisterPlan}
+use Rattle.pcj_rows.specs.Plans.{HasPlan, IsLoadPlan, IsRegisterPlan}
 use Rattle.pcj_fit.specs.Queries.{HasQueries, Registration, added}
 use Rattle.pcj_fit.specs.QueryLaws.{LoadStepLeavesQueries, RegisterStepLeavesTriples, StepAddsQuery, StepLeavesQueries, registration_of}
 use Rattle.pcj_fit.specs.Sound.{Sound}
-use Rattle.pcj_fit.specs.Triples.{HasTriples}
+use Rattle.pcj_rows.specs.Triples.{HasTriples}
 use Rattle.pcj_fit.proofs.QueryLemmas.{loads_leave_queries, moves_leave_queries, registrations_add_theirs}
 use Rattle.pcj_fit.proofs.SoundLemmas.{clock_line, move_is_sound}
 use Rattle.pcj_fit.proofs.TripleLemmas.{found_are_there, loads_add_triples, moves_leave_triples, registrations_leave_triples}

@@ -17,10 +17,10 @@ use Rattle.pcj_moves.proofs.ActorLemmas.{by_number}
 use Rattle.pcj_fit.specs.Fit.{Fit}
 use Rattle.pcj_fit.specs.Queries.{Ascend, IsValidRegistration, Registration, StandsAs, added}
 use Rattle.pcj_fit.specs.QueryLaws.{QueriesAreOne, TablesHaveQueries}
-use Rattle.pcj_fit.specs.Registrations.{registration_value}
-use Rattle.pcj_fit.proofs.EachLemmas.{each_of, of_each}
+use Rattle.pcj_rows.specs.Registrations.{registration_value}
+use Rattle.pcj_rows.proofs.EachLemmas.{each_of, of_each}
 use Rattle.pcj_fit.proofs.QueryLemmas.{all_added, ascend_added, in_added, known_added, new_added, one_put, one_value, same_registration}
-use Rattle.pcj_fit.proofs.TableTriples.{found_here, has_row, nothing_stands}
+use Rattle.pcj_rows.proofs.TableTriples.{found_here, has_row, nothing_stands}
 
 -- ---- the registration at a key
 

@@ -27,14 +27,14 @@ use Rattle.pcj_moves.proofs.StandingLemmas.{one_move_changes}
 use Rattle.pcj_moves.specs.Moves.{CommitPrimary, rows_after}
 use Rattle.pcj_choices.proofs.ClaimLemmas.{reads_the_same}
 use Rattle.pcj_fit.specs.Laws.{ClockAloneIsFit, FoundAreThere, LoadsAddTriples, MovesLeaveTriples}
-use Rattle.pcj_fit.specs.Origins.{HasOrigin, IsAfter}
-use Rattle.pcj_fit.specs.Plans.{AreReadOf, IsLoadPlan, absent_of, load_writes}
+use Rattle.pcj_rows.specs.Origins.{HasOrigin, IsAfter}
+use Rattle.pcj_rows.specs.Plans.{AreReadOf, IsLoadPlan, absent_of, load_writes}
 use Rattle.pcj_fit.specs.QueryLaws.{RegistrationsLeaveTriples}
-use Rattle.pcj_fit.specs.Rows.{Decodes, IsDecoded}
-use Rattle.pcj_fit.specs.Triples.{HasTriples}
+use Rattle.pcj_rows.specs.Rows.{Decodes, IsDecoded}
+use Rattle.pcj_rows.specs.Triples.{HasTriples}
 use Rattle.pcj_fit.proofs.FitLemmas.{stands_of}
-use Rattle.pcj_fit.proofs.PlanLemmas.{absent_all, by_order, is_among, mark_unwritten, mark_written}
-use Rattle.pcj_fit.proofs.PutLemmas.{seen_stands}
+use Rattle.pcj_rows.proofs.PlanLemmas.{absent_all, by_order, is_among, mark_unwritten, mark_written}
+use Rattle.pcj_rows.proofs.PutLemmas.{seen_stands}
 use Rattle.pcj_fit.proofs.SoundLemmas.{sound_is_fit}
 
 -- ---- what a load has read
@@ -55,7 +55,7 @@ read_is_there next rows start (first ∷ triples) (OfRow key found ∷ answers) 
     by None e either rest = or either
       where
         not_here : (is_among triple (first ∷ absent_of triples answers)) ≡ false
-        not_here = ap (λ f. is_among triple (Rattle.pcj_fit.specs.Plans.absent_by first (OfRow key f) ++ absent_of triples answers)) (sym e) ∙ absent
+        not_here = ap (λ f. is_among triple (Rattle.pcj_rows.specs.Plans.absent_by first (OfRow key f) ++ absent_of triples answers)) (sym e) ∙ absent
 
         or : (first ≡ triple) ⊎ Contains triples triple → IsSome (standing rows (triple_key Spo triple))
         or (inl same) = absurd (let its : same_triple triple first ≡ true = ap (same_triple triple) same ∙ same_triple_refl triple in
@@ -71,7 +71,7 @@ read_is_there next rows start (first ∷ triples) (OfRow key found ∷ answers) 
         or (inl same) = seen_stands next rows (row.Triple Spo triple) start value decodes (subst IsTriple same (All-head IsTriple first triples valid)) refl (λ deleted. deleted)
             (subst (λ t. value_seen rows (triple_key Spo t) start ≡ Some value) same
             (subst (λ k. value_seen rows k start ≡ Some value) reads.0 (seen (OfRow key found) (first_there (OfRow key found) answers) key (same_bytes_itself key) ∙ e)))
-        or (inr later) = rest later (ap (λ f. is_among triple (Rattle.pcj_fit.specs.Plans.absent_by first (OfRow key f) ++ absent_of triples answers)) (sym e) ∙ absent)
+        or (inr later) = rest later (ap (λ f. is_among triple (Rattle.pcj_rows.specs.Plans.absent_by first (OfRow key f) ++ absent_of triples answers)) (sym e) ∙ absent)
 
 -- what it writes is of its triples
 absent_is_its : (triples : List Triple) (answers : List Answer) (triple : Triple) → is_among triple (absent_of triples answers) ≡ true → Contains triples triple
@@ -220,5 +220,5 @@ clock_alone_is_fit number rows alone = (
     }
 
     at : (key : Key) → has_nothing (rows key) ≡ false → (key ≡ clock_key) ⊎ (key ≡ clock_key → ⊥) → IsDecoded number key (rows key)
-    at key some (inl same) = record { name = row.Clock; valid = tt; granted = tt; is = same; holds = subst (λ k. Rattle.pcj_fit.specs.Rows.IsClockRow (rows k)) (sym same) alone.clock }
+    at key some (inl same) = record { name = row.Clock; valid = tt; granted = tt; is = same; holds = subst (λ k. Rattle.pcj_rows.specs.Rows.IsClockRow (rows k)) (sym same) alone.clock }
     at key some (inr other) = absurd (let clash : true ≡ false = ap has_nothing (sym (alone.others key other)) ∙ some in cc)

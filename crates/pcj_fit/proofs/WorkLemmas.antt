@@ -5,14 +5,14 @@ use Rattle.pcj_rowtables.specs.Rows.{triple_key}
 use Rattle.pcj_moves.specs.Moves.{CommitPrimary, rows_after}
 use Rattle.pcj_moves.proofs.StandingLemmas.{one_move_changes}
 use Rattle.pcj_fit.specs.Queries.{HasQueries}
-use Rattle.pcj_fit.specs.Triples.{HasTriples}
+use Rattle.pcj_rows.specs.Triples.{HasTriples}
 use Rattle.pcj_fit.specs.WorkLaws.{WorkLeavesQueries, WorkLeavesTriples, WorkStepLeavesQueries, WorkStepLeavesTriples}
-use Rattle.pcj_fit.specs.Workers.{IsWorkerPlan}
+use Rattle.pcj_rows.specs.Workers.{IsWorkerPlan}
 use Rattle.pcj_fit.proofs.FitLemmas.{work_leaves_registrations}
 use Rattle.pcj_fit.proofs.QueryLemmas.{moves_leave_queries, queries_stay}
 use Rattle.pcj_fit.proofs.StepLemmas.{step_turns}
 use Rattle.pcj_fit.proofs.TripleLemmas.{moves_leave_triples, same_triples}
-use Rattle.pcj_fit.proofs.WorkerLemmas.{work_leaves}
+use Rattle.pcj_rows.proofs.WorkerLemmas.{work_leaves}
 
 pub work_leaves_triples : WorkLeavesTriples
 work_leaves_triples number rows actor others write commit known plan may sound has =

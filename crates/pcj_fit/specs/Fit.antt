@@ -1,28 +1,20 @@
 -- What holds of the rows of a table wherever the program was stopped, and whoever was at work.
 use Rattle.std.specs.Prelude.{◌≡◌, ◌≢◌, ℕ, ◌^◌, ◌≤◌, Some}
-use Rattle.pcj_term.specs.declared.triple.Triple.{Triple}
 use Rattle.pcj_table.specs.declared.lock.Lock.{Lock}
 use Rattle.pcj_table.specs.Table.{Key, Table, row_at}
-use Rattle.pcj_encode.specs.declared.order.Order.TheVariants.{Spo, Pos, Osp}
-use Rattle.pcj_encode.specs.Name.{IsTriple}
-use Rattle.pcj_rowtables.specs.Rows.{triple_key}
 use Rattle.pcj_oracle.specs.Clock.{stored_number}
-use Rattle.pcj_mvcc.specs.Reading.{Rows, committed, standing}
+use Rattle.pcj_mvcc.specs.Reading.{Rows, committed}
 use Rattle.pcj_mvcc.specs.Times.{AllVersions, TimesInOrder}
 use Rattle.pcj_moves.specs.Moves.{LocksNameOne, StartsCommitOnce, is_own}
-use Rattle.pcj_fit.specs.Origins.{TasksHaveOrigins}
-use Rattle.pcj_fit.specs.Registrations.{RegistrationsStand}
-use Rattle.pcj_fit.specs.Rows.{Decodes}
+use Rattle.pcj_rows.specs.Origins.{TasksHaveOrigins}
+use Rattle.pcj_rows.specs.Registrations.{RegistrationsStand}
+use Rattle.pcj_rows.specs.Rows.{Decodes}
+use Rattle.pcj_rows.specs.Triples.{AtomicRows}
 
 -- no number is the commit of two starts, or both a start and a commit
 pub record NumbersApart (rows : Rows) : Type 0 where
   pub versions : (key : Key) (start commit : ℕ) → committed rows key start ≡ Some commit → AllVersions (λ version. is_own start commit version.start version.commit) rows
   pub locks : (key : Key) (start commit : ℕ) → committed rows key start ≡ Some commit → (other : Key) (lock : Lock) → (rows other).lock ≡ Some lock → lock.start ≢ commit
-
--- the three rows of a triple stand together, with one commit
-pub record AtomicRows (rows : Rows) : Type 0 where
-  pub pos : (triple : Triple) → IsTriple triple → standing rows (triple_key Pos triple) ≡ standing rows (triple_key Spo triple)
-  pub osp : (triple : Triple) → IsTriple triple → standing rows (triple_key Osp triple) ≡ standing rows (triple_key Spo triple)
 
 -- Rows as a table may have them, where `next` is the first number that wasn't granted. Each row decodes. In each the
 -- versions ascend, a lock started after them, and each version's transaction started before it committed. Locks of one

@@ -10,10 +10,10 @@ use Rattle.pcj_moves.specs.Actors.{Actor, new_actor}
 use Rattle.pcj_moves.specs.Moves.{CommitPrimary, IsAllowed, Makes, Move, State, WritePlain, actor_after, number_after, rows_after}
 use Rattle.pcj_choices.specs.UnderChoice.{is_primary_commit, is_steady}
 use Rattle.pcj_fit.specs.Fit.{Fit}
-use Rattle.pcj_fit.specs.Plans.{IsLoadPlan}
-use Rattle.pcj_fit.specs.Rows.{IsClockRow}
+use Rattle.pcj_rows.specs.Plans.{IsLoadPlan}
+use Rattle.pcj_rows.specs.Rows.{IsClockRow}
 use Rattle.pcj_fit.specs.Sound.{IsClockPlain, IsPlanned, MayWritePlain, Sound}
-use Rattle.pcj_fit.specs.Triples.{HasTriples}
+use Rattle.pcj_rows.specs.Triples.{HasTriples}
 
 abbrev pub state_of : ℕ → Rows → List Actor → State
 state_of number rows actors = record { number = number; rows = rows; actors = actors }

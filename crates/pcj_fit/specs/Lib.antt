@@ -1,14 +1,5 @@
-pub mod Names
-pub mod Registrations
-pub mod Values
-pub mod Rows
-pub mod Origins
 pub mod Fit
-pub mod Triples
 pub mod Queries
-pub mod Workers
-pub mod Plans
-pub mod OwnRows
 pub mod Sound
 pub mod Laws
 pub mod QueryLaws

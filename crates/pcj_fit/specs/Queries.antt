@@ -5,7 +5,7 @@ use Rattle.pcj_encode.specs.declared.key_name.KeyName.TheVariants as row
 use Rattle.pcj_encode.specs.Name.{IsRegistration, key_of}
 use Rattle.pcj_tree.specs.declared.tree.Tree.{Tree}
 use Rattle.pcj_mvcc.specs.Reading.{Rows, standing}
-use Rattle.pcj_fit.specs.Registrations.{IsQueryTree, registration_value}
+use Rattle.pcj_rows.specs.Registrations.{IsQueryTree, registration_value}
 
 -- the name of a query, the number of its registration, and its tree
 pub record Registration : Type 0 where

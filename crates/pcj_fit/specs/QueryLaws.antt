@@ -14,10 +14,10 @@ use Rattle.pcj_moves.specs.Moves.{CommitPrimary, IsAllowed, Makes, Move, rows_af
 use Rattle.pcj_choices.specs.UnderChoice.{is_primary_commit}
 use Rattle.pcj_fit.specs.Fit.{Fit}
 use Rattle.pcj_fit.specs.Laws.{AreSteady, state_of}
-use Rattle.pcj_fit.specs.Plans.{IsLoadPlan, IsRegisterPlan}
+use Rattle.pcj_rows.specs.Plans.{IsLoadPlan, IsRegisterPlan}
 use Rattle.pcj_fit.specs.Queries.{HasQueries, Registration, added}
 use Rattle.pcj_fit.specs.Sound.{Sound}
-use Rattle.pcj_fit.specs.Triples.{HasTriples}
+use Rattle.pcj_rows.specs.Triples.{HasTriples}
 
 -- ---- tables
 

@@ -9,9 +9,9 @@ use Rattle.pcj_moves.specs.Actors.{Actor, Each}
 use Rattle.pcj_moves.specs.ChoiceLaws.{IsRipeAt}
 use Rattle.pcj_moves.specs.Moves.{IsConsistent, State}
 use Rattle.pcj_fit.specs.Fit.{Fit}
-use Rattle.pcj_fit.specs.OwnRows.{AreOwnFrom}
-use Rattle.pcj_fit.specs.Plans.{HasPlan}
-use Rattle.pcj_fit.specs.Workers.{IsExport}
+use Rattle.pcj_rows.specs.OwnRows.{AreOwnFrom}
+use Rattle.pcj_rows.specs.Plans.{HasPlan}
+use Rattle.pcj_rows.specs.Workers.{IsExport}
 
 -- the actor writes what its plan says
 abbrev pub IsPlanned : Actor → Type 0

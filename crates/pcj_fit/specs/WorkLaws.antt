@@ -8,8 +8,8 @@ use Rattle.pcj_moves.specs.Moves.{CommitPrimary, IsAllowed, Makes, Move, rows_af
 use Rattle.pcj_fit.specs.Laws.{AreSteady, state_of}
 use Rattle.pcj_fit.specs.Queries.{HasQueries, Registration}
 use Rattle.pcj_fit.specs.Sound.{Sound}
-use Rattle.pcj_fit.specs.Triples.{HasTriples}
-use Rattle.pcj_fit.specs.Workers.{IsWorkerPlan}
+use Rattle.pcj_rows.specs.Triples.{HasTriples}
+use Rattle.pcj_rows.specs.Workers.{IsWorkerPlan}
 
 -- the commit of a worker's transaction
 abbrev pub WorkLeavesTriples : Type 0

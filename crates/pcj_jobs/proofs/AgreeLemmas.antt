@@ -19,7 +19,7 @@ use Rattle.pcj_moves.specs.Moves.{IsAllowed, Makes, Move, CommitNothing, CommitP
 use Rattle.pcj_moves.proofs.ActorLemmas.{each_contains, each_sound}
 use Rattle.pcj_actor.specs.StepLaws.{state_of}
 use Rattle.pcj_fit.specs.Sound.{Sound}
-use Rattle.pcj_fit.specs.Triples.{HasTriples}
+use Rattle.pcj_rows.specs.Triples.{HasTriples}
 use Rattle.pcj_pending.proofs.MoveLemmas.{steps_add}
 use Rattle.pcj_pending.specs.Laws.{AddsAtMost}
 use Rattle.pcj_client.specs.Job.{Content, Job, loaded}

@@ -32,9 +32,9 @@ use Rattle.pcj_moves.proofs.ConsistencyLemmas.{its_first}
 use Rattle.pcj_moves.proofs.OtherLemmas.{lock_is, ripe_is_held}
 use Rattle.pcj_moves.proofs.OwnLemmas.{lock_is_of_write}
 use Rattle.pcj_moves.proofs.StepLemmas.{AtPrimary, at_primary, names_one, trace_lock, uncommitted}
-use Rattle.pcj_fit.specs.Plans.{AreReadOf, IsLoadPlan, absent_of, put_mark, task_key}
-use Rattle.pcj_fit.specs.Triples.{HasTriples}
-use Rattle.pcj_fit.proofs.PlanLemmas.{Mark, absent_all, as_task, by_order, is_among, mark_key, mark_written, written_by}
+use Rattle.pcj_rows.specs.Plans.{AreReadOf, IsLoadPlan, absent_of, put_mark, task_key}
+use Rattle.pcj_rows.specs.Triples.{HasTriples}
+use Rattle.pcj_rows.proofs.PlanLemmas.{Mark, absent_all, as_task, by_order, is_among, mark_key, mark_written, written_by}
 use Rattle.pcj_client.specs.Job.Content.{Loads}
 use Rattle.pcj_model.specs.Job as told
 use Rattle.pcj_jobs.specs.Known.{AreUntouched, is_row_of}

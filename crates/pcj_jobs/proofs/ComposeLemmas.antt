@@ -4,7 +4,7 @@ use Rattle.std.specs.Option.{option_map}
 use Rattle.pcj_term.specs.declared.triple.Triple.{Triple}
 use Rattle.pcj_table.specs.Table.{Table, row_at}
 use Rattle.pcj_oracle.specs.declared.block.Block.{Block}
-use Rattle.pcj_fit.specs.Triples.{HasTriples}
+use Rattle.pcj_rows.specs.Triples.{HasTriples}
 use Rattle.pcj_pending.specs.Pending.{locks_of, notifications_of}
 use Rattle.pcj_clients.specs.Clients.{job_of}
 use Rattle.pcj_clients.specs.declared.busy.Busy.{Busy}

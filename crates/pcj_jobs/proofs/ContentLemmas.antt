@@ -26,12 +26,12 @@ use Rattle.pcj_moves.specs.Traces.{traces}
 use Rattle.pcj_moves.specs.Transactions.{primary_of, write_at}
 use Rattle.pcj_moves.proofs.OwnLemmas.{lock_is_of_write}
 use Rattle.pcj_moves.proofs.StepLemmas.{trace_lock}
-use Rattle.pcj_fit.specs.Plans.{IsLoadPlan, IsRegisterPlan, absent_of, load_writes, registration_writes}
-use Rattle.pcj_fit.specs.Registrations.{IsQueryTree}
-use Rattle.pcj_fit.specs.Triples.{HasTriples}
-use Rattle.pcj_fit.proofs.PlanLemmas.{Mark, absent_all, as_task, by_order, load_names, mark_name, mark_unwritten}
-use Rattle.pcj_fit.proofs.RegisterLemmas.{register_names}
-use Rattle.pcj_fit.proofs.WriteLemmas.{EachWrite, IsNamed, none_written}
+use Rattle.pcj_rows.specs.Plans.{IsLoadPlan, IsRegisterPlan, absent_of, load_writes, registration_writes}
+use Rattle.pcj_rows.specs.Registrations.{IsQueryTree}
+use Rattle.pcj_rows.specs.Triples.{HasTriples}
+use Rattle.pcj_rows.proofs.PlanLemmas.{Mark, absent_all, as_task, by_order, load_names, mark_name, mark_unwritten}
+use Rattle.pcj_rows.proofs.RegisterLemmas.{register_names}
+use Rattle.pcj_rows.proofs.WriteLemmas.{EachWrite, IsNamed, none_written}
 use Rattle.pcj_client.specs.Job.{Content}
 use Rattle.pcj_client.specs.Job.Content.{Loads, Registers}
 use Rattle.pcj_model.specs.Job as told

@@ -29,8 +29,8 @@ use Rattle.pcj_txn.specs.declared.event.TxnEvent.{TxnEvent}
 use Rattle.pcj_txn.specs.declared.event.TxnEvent.TheVariants as txn
 use Rattle.pcj_encode.specs.declared.order.Order.TheVariants.{Spo, Pos, Osp}
 use Rattle.pcj_rowtables.specs.Rows.{triple_key}
-use Rattle.pcj_fit.specs.Plans.{absent_of, load_writes, put_mark, registration_writes, task_key, triple_writes}
-use Rattle.pcj_fit.proofs.PlanLemmas.{as_task, by_order}
+use Rattle.pcj_rows.specs.Plans.{absent_of, load_writes, put_mark, registration_writes, task_key, triple_writes}
+use Rattle.pcj_rows.proofs.PlanLemmas.{as_task, by_order}
 use Rattle.pcj_client.specs.Job.{Content, Job}
 use Rattle.pcj_client.specs.Job.Content.{Loads, Registers}
 use Rattle.pcj_client.specs.Events.{IsTold, job_event}

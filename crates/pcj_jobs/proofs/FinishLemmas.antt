@@ -16,7 +16,7 @@ use Rattle.pcj_txn.specs.declared.error.TxnError.TheVariants as txn_error
 use Rattle.pcj_txn.specs.Progress.{Draw, due_commit, due_last, due_of}
 use Rattle.pcj_actor.specs.StepLaws.{state_of}
 use Rattle.pcj_fit.specs.Sound.{Sound}
-use Rattle.pcj_fit.specs.Triples.{HasTriples}
+use Rattle.pcj_rows.specs.Triples.{HasTriples}
 use Rattle.pcj_pending.specs.Pending.{IsQuiet, locks_of, notifications_of}
 use Rattle.pcj_client.specs.Job.{Job}
 use Rattle.pcj_client.specs.Events.{IsDrawing}

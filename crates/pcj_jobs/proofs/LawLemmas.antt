@@ -8,7 +8,7 @@ use Rattle.pcj_oracle.specs.Clock.{next_number}
 use Rattle.pcj_oracle.specs.declared.block.Block.{Block}
 use Rattle.pcj_moves.specs.Actors.{IsSound}
 use Rattle.pcj_moves.proofs.ActorLemmas.{each_contains, each_sound}
-use Rattle.pcj_fit.specs.Triples.{HasTriples}
+use Rattle.pcj_rows.specs.Triples.{HasTriples}
 use Rattle.pcj_pending.specs.Pending.{locks_of, notifications_of}
 use Rattle.pcj_client.specs.Job.{Job}
 use Rattle.pcj_client.specs.Events.{IsNamed}

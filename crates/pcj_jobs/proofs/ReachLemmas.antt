@@ -7,7 +7,7 @@ use Rattle.pcj_oracle.specs.declared.block.Block.{Block}
 use Rattle.pcj_moves.specs.Actors.{Actor}
 use Rattle.pcj_actor.specs.StepLaws.{state_of}
 use Rattle.pcj_fit.specs.Sound.{Sound}
-use Rattle.pcj_fit.specs.Triples.{HasTriples}
+use Rattle.pcj_rows.specs.Triples.{HasTriples}
 use Rattle.pcj_client.specs.Job.{Job}
 use Rattle.pcj_client.specs.declared.event.JobEvent.{JobEvent}
 use Rattle.pcj_client.specs.declared.event.JobEvent.TheVariants as does

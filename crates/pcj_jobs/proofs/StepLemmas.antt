@@ -5,7 +5,7 @@ use Rattle.pcj_mvcc.specs.Reading.{Rows, SameReading}
 use Rattle.pcj_moves.specs.Actors.{Actor}
 use Rattle.pcj_moves.specs.Moves.{IsConsistent, Makes, Move}
 use Rattle.pcj_moves.specs.Reads.{Reads}
-use Rattle.pcj_fit.specs.Triples.{HasTriples}
+use Rattle.pcj_rows.specs.Triples.{HasTriples}
 use Rattle.pcj_client.specs.Job.{Content, IsJob, Job}
 use Rattle.pcj_client.specs.Events.{CommitsOnce, PrewritesOne, ReadsOne}
 use Rattle.pcj_client.specs.declared.event.JobEvent.{JobEvent}

@@ -6,7 +6,7 @@ use Rattle.pcj_oracle.specs.declared.block.Block.{Block}
 use Rattle.pcj_tree.specs.Tree.{IsTree}
 use Rattle.pcj_mvcc.specs.Reading.{Rows}
 use Rattle.pcj_fit.specs.Queries as fit
-use Rattle.pcj_fit.specs.Triples.{HasTriples}
+use Rattle.pcj_rows.specs.Triples.{HasTriples}
 use Rattle.pcj_pending.specs.Pending.{IsQuiet, locks_of, notifications_of}
 use Rattle.pcj_client.specs.declared.event.JobEvent.{JobEvent}
 use Rattle.pcj_client.specs.declared.event.JobEvent.TheVariants as does

@@ -9,7 +9,7 @@ use Rattle.pcj_tree.specs.Tree.{IsTree}
 use Rattle.pcj_tree.specs.declared.tree.Tree.{Tree}
 use Rattle.pcj_moves.specs.Traces.{traces}
 use Rattle.pcj_moves.specs.Transactions.{IsHeld, lock_at, write_at}
-use Rattle.pcj_fit.specs.Plans.{registration_writes, triple_writes}
+use Rattle.pcj_rows.specs.Plans.{registration_writes, triple_writes}
 use Rattle.pcj_client.specs.Job.{Content, IsJob, Job}
 use Rattle.pcj_client.specs.Job.Content.{Loads, Registers}
 use Rattle.pcj_clients.specs.Clients.{are_apart, job_of}

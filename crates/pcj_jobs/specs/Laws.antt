@@ -10,7 +10,7 @@ use Rattle.pcj_moves.specs.Moves.{Makes, Move}
 use Rattle.pcj_actor.specs.StepLaws as step
 use Rattle.pcj_fit.specs.Laws.{state_of}
 use Rattle.pcj_fit.specs.Sound.{Sound}
-use Rattle.pcj_fit.specs.Triples.{HasTriples}
+use Rattle.pcj_rows.specs.Triples.{HasTriples}
 use Rattle.pcj_client.specs.Job.{IsJob, Job}
 use Rattle.pcj_client.specs.declared.event.JobEvent.{JobEvent}
 use Rattle.pcj_clients.specs.Clients.{actors_of, job_of, without_job}

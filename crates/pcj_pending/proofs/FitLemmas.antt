@@ -19,7 +19,7 @@ use Rattle.pcj_encode.specs.Name.{key_of, parts_of}
 use Rattle.pcj_encode.specs.Range as kind
 use Rattle.pcj_encode.specs.Range.{Holds, range_of}
 use Rattle.pcj_encode.proofs.Ranges.{hold_names, some_key}
-use Rattle.pcj_fit.specs.Rows.{Decodes, HoldsVersions, IsDecoded, IsLockOf, IsRowOf, IsVersionOf}
+use Rattle.pcj_rows.specs.Rows.{Decodes, HoldsVersions, IsDecoded, IsLockOf, IsRowOf, IsVersionOf}
 use Rattle.pcj_pending.specs.Pending.{IsFit, is_of_task, is_standing, locks_of, notifications_of}
 use Rattle.pcj_pending.proofs.WalkLemmas.{as_many}
 

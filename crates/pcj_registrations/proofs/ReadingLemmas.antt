@@ -10,7 +10,7 @@ use Rattle.pcj_encode.proofs.Names.{reads_back}
 use Rattle.pcj_tree.specs.declared.tree.Tree.{Tree}
 use Rattle.pcj_tree.specs.Read.{IsStorable}
 use Rattle.pcj_tree.specs.Stored.{stored_tree}
-use Rattle.pcj_fit.specs.Registrations.{registration_value}
+use Rattle.pcj_rows.specs.Registrations.{registration_value}
 use Rattle.pcj_registrations.specs.declared.registration.Registration.{Registration}
 use Rattle.pcj_registrations.specs.Reading.{ReadsNumber, ReadsParts, ReadsValue}
 

@@ -15,7 +15,7 @@ use Rattle.pcj_mvcc.specs.Acts.{version_of}
 use Rattle.pcj_mvcc.specs.Reading.{Put, Rows, committed, put_of, reading, standing, with_lock}
 use Rattle.pcj_mvcc.specs.Times.{TimesInOrder, starts_first}
 use Rattle.pcj_mvcc.proofs.Versions.{below_more, newest_added, version_of_start}
-use Rattle.pcj_fit.specs.Rows.{HoldsVersions, IsLockOf, IsVersionOf}
+use Rattle.pcj_rows.specs.Rows.{HoldsVersions, IsLockOf, IsVersionOf}
 use Rattle.pcj_registrations.specs.Reading.{lock_commit, value_by, version_value}
 
 all_up_to : (next : ℕ) (name : KeyName) (versions : List Version) → next ≤ 2 ^ 48 → All (IsVersionOf next name) versions → versions_up_to (2 ^ 48) versions ≡ versions

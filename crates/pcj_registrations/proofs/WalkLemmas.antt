@@ -32,11 +32,11 @@ use Rattle.pcj_mvcc.specs.Reading.{Put, Rows, standing}
 use Rattle.pcj_fit.specs.Fit.{Fit}
 use Rattle.pcj_fit.specs.Queries as fit
 use Rattle.pcj_fit.specs.Queries.{Ascend, HasQueries, IsValidRegistration, StandsAs}
-use Rattle.pcj_fit.specs.Registrations.{registration_value}
-use Rattle.pcj_fit.specs.Rows.{HoldsVersions}
-use Rattle.pcj_fit.proofs.EachLemmas.{each_of, of_each}
+use Rattle.pcj_rows.specs.Registrations.{registration_value}
+use Rattle.pcj_rows.specs.Rows.{HoldsVersions}
+use Rattle.pcj_rows.proofs.EachLemmas.{each_of, of_each}
 use Rattle.pcj_fit.proofs.QueryLemmas.{one_put, one_value, same_registration}
-use Rattle.pcj_fit.proofs.RowLemmas.{row_of_name}
+use Rattle.pcj_rows.proofs.RowLemmas.{row_of_name}
 use Rattle.pcj_pending.specs.Pending.{IsFit}
 use Rattle.pcj_pending.proofs.WalkLemmas.{one_fewer, seen_walk}
 use Rattle.pcj_registrations.specs.declared.registration.Registration.{Registration}

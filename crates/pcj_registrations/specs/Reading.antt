@@ -11,7 +11,7 @@ use Rattle.pcj_tree.specs.declared.tree.Tree.{Tree}
 use Rattle.pcj_tree.specs.Read.{IsStorable}
 use Rattle.pcj_tree.specs.Stored.{stored_tree}
 use Rattle.pcj_mvcc.specs.Reading.{Rows, committed}
-use Rattle.pcj_fit.specs.Registrations.{registration_value}
+use Rattle.pcj_rows.specs.Registrations.{registration_value}
 use Rattle.pcj_registrations.specs.declared.registration.Registration.{Registration}
 
 -- ---- the value of a row

@@ -8,7 +8,7 @@ use Rattle.pcj_table.specs.Row.{no_row}
 use Rattle.pcj_table.specs.Table.{Key, row_at}
 use Rattle.pcj_oracle.specs.Clock.{clock_key, clock_number, stored_number}
 use Rattle.pcj_fit.specs.Laws.{HasClockAlone}
-use Rattle.pcj_fit.specs.Rows.{IsClockRow}
+use Rattle.pcj_rows.specs.Rows.{IsClockRow}
 use Rattle.pcj_fit.proofs.TripleLemmas.{clock_alone_is_fit}
 use Rattle.pcj_replay.specs.Entry.{IsOpen}
 

@@ -11,7 +11,7 @@ use Rattle.pcj_oracle.specs.Clock.{stored_number}
 use Rattle.pcj_algebra.specs.declared.query.Query.{Query}
 use Rattle.pcj_fit.specs.Fit.{Fit}
 use Rattle.pcj_fit.specs.Queries as fit
-use Rattle.pcj_fit.proofs.EachLemmas.{of_each}
+use Rattle.pcj_rows.proofs.EachLemmas.{of_each}
 use Rattle.pcj_fit.proofs.QueryLemmas.{names_are_distinct}
 use Rattle.pcj_fit.proofs.SoundLemmas.{fit_is_sound}
 use Rattle.pcj_fit.proofs.TableQueries.{queries_are_one, tables_have_queries}

@@ -7,7 +7,7 @@ use Rattle.pcj_io.specs.Faults.{Rose}
 use Rattle.pcj_io.proofs.Causes.{Rose-since}
 use Rattle.pcj_term.specs.declared.triple.Triple.{Triple}
 use Rattle.pcj_table.specs.Table.{Table, row_at}
-use Rattle.pcj_fit.specs.Triples.{HasTriples}
+use Rattle.pcj_rows.specs.Triples.{HasTriples}
 use Rattle.pcj_oracle.specs.Clock.{IsClock, stored_number}
 use Rattle.pcj_lines.specs.Lines.{ended}
 use Rattle.pcj_script.specs.declared.error.ScriptError.{ScriptError}
@@ -48,7 +48,7 @@ use Rattle.pcj_replay.proofs.AnswerLemmas.{below_first, holds_left}
 use Rattle.pcj_replay.proofs.EntryLemmas.{some_queries}
 use Rattle.pcj_replay.proofs.InputLemmas.{reads_as, whole_is, whole_of}
 use Rattle.pcj_replay.proofs.ScriptLemmas.{goes_on_with}
-use Rattle.pcj_fit.proofs.TableTriples.{table_triples}
+use Rattle.pcj_rows.proofs.TableTriples.{table_triples}
 
 -- ---- what is told
 

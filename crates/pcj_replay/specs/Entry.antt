@@ -4,7 +4,7 @@ use Rattle.pcj_term.specs.declared.triple.Triple.{Triple}
 use Rattle.pcj_table.specs.Table.{Table, row_at}
 use Rattle.pcj_oracle.specs.Clock.{IsClock, stored_number}
 use Rattle.pcj_fit.specs.Fit.{Fit}
-use Rattle.pcj_fit.specs.Triples.{HasTriples}
+use Rattle.pcj_rows.specs.Triples.{HasTriples}
 use Rattle.pcj_pending.specs.Pending.{locks_of, notifications_of}
 use Rattle.pcj_model.specs.Queries.{Registration}
 use Rattle.pcj_model.specs.State.{State, start_state}

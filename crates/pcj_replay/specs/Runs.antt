@@ -4,7 +4,7 @@ use Rattle.pcj_term.specs.declared.triple.Triple.{Triple}
 use Rattle.pcj_io.specs.Faults.{Rose}
 use Rattle.pcj_io.specs.Sink.{Appends, AppendsPrefix}
 use Rattle.pcj_table.specs.Table.{Table, row_at}
-use Rattle.pcj_fit.specs.Triples.{HasTriples}
+use Rattle.pcj_rows.specs.Triples.{HasTriples}
 use Rattle.pcj_script.specs.declared.error.ScriptKind.TheVariants.{TooMuch}
 use Rattle.pcj_script.specs.Commands.{Command}
 use Rattle.pcj_script.specs.Script.{Ending as ScriptEnding}

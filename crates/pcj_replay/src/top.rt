@@ -5,7 +5,7 @@ ghost use Rattle.pcj_io.specs.Faults.{Rose};
 ghost use Rattle.pcj_table.specs.Table.{row_at};
 ghost use Rattle.pcj_table.specs.declared.error.TableError.TheVariants as table_errors;
 ghost use Rattle.pcj_oracle.specs.Clock.{IsClock, stored_number};
-ghost use Rattle.pcj_fit.specs.Triples.{HasTriples};
+ghost use Rattle.pcj_rows.specs.Triples.{HasTriples};
 ghost use Rattle.pcj_model.specs.Ending.{status_of};
 ghost use Rattle.pcj_model.specs.Queries.{Registration};
 ghost use Rattle.pcj_model.specs.Reply.{Language};

@@ -7,7 +7,7 @@ use Rattle.pcj_table.specs.declared.row.Row.{Row}
 use Rattle.pcj_table.specs.Row.{no_row}
 use Rattle.pcj_table.specs.Table.{Key, row_at}
 use Rattle.pcj_oracle.specs.Clock.{clock_key, clock_number, stored_number}
-use Rattle.pcj_fit.specs.Rows.{IsClockRow}
+use Rattle.pcj_rows.specs.Rows.{IsClockRow}
 use Rattle.pcj_samples.specs.Fresh.{IsFresh}
 
 nothing_at : (key : Key) → row_at empty key ≡ no_row

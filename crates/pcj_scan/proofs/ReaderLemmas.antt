@@ -13,7 +13,7 @@ use Rattle.pcj_choices.specs.UnderChoice.{is_primary_commit}
 use Rattle.pcj_actor.proofs.ActorLemmas.{makes_then}
 use Rattle.pcj_fit.specs.Laws.{WritesClock, state_of}
 use Rattle.pcj_fit.specs.Sound.{Sound}
-use Rattle.pcj_fit.specs.Triples.{HasTriples}
+use Rattle.pcj_rows.specs.Triples.{HasTriples}
 use Rattle.pcj_fit.proofs.SoundLemmas.{clock_line, move_is_sound}
 use Rattle.pcj_fit.proofs.TripleLemmas.{moves_leave_triples}
 use Rattle.pcj_scan.specs.Readers.{AreReaderMoves, IsReader, IsReaderMove, ReadsInPart, ReadsOn, with_answers}

@@ -33,7 +33,7 @@ use Rattle.pcj_algebra.proofs.OneMatch.{matches_once}
 use Rattle.pcj_solutions.specs.Solutions.{AddsMatch}
 use Rattle.pcj_patterns.specs.Serving.{front_of, rows_of, serving}
 use Rattle.pcj_oracle.specs.Clock.{clock_key}
-use Rattle.pcj_fit.proofs.RowLemmas.{is_written, to_versions}
+use Rattle.pcj_rows.proofs.RowLemmas.{is_written, to_versions}
 use Rattle.pcj_pending.proofs.CountLemmas.{added_at_most}
 use Rattle.pcj_scan.specs.Ranges.{AddsMatchOf, AddsNoRow, IsAhead, IsRowOf, IsTripleOf, NeverHasPlain, rows_in}
 

@@ -20,7 +20,7 @@ use Rattle.pcj_mvcc.specs.Reading.{Rows}
 use Rattle.pcj_moves.specs.Actors.{Actor, new_actor}
 use Rattle.pcj_actor.specs.StepLaws.{state_of}
 use Rattle.pcj_fit.specs.Laws as fit
-use Rattle.pcj_fit.specs.Plans.{IsLoad, IsOfLoad, IsTripleOfLoad}
+use Rattle.pcj_rows.specs.Plans.{IsLoad, IsOfLoad, IsTripleOfLoad}
 use Rattle.pcj_fit.specs.Sound.{Sound}
 use Rattle.pcj_fit.proofs.SoundLemmas.{back_is_sound}
 use Rattle.pcj_client.specs.Job.{Content, IsJob, Job}

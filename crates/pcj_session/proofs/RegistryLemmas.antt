@@ -6,7 +6,7 @@ use Rattle.pcj_term.specs.Order.{same_bytes}
 use Rattle.pcj_term.proofs.ByteLemmas.{other_bytes}
 use Rattle.pcj_algebra.specs.declared.query.Query.{Query}
 use Rattle.pcj_tree.specs.Tree.{IsTree}
-use Rattle.pcj_fit.specs.Registrations.{IsQueryTree}
+use Rattle.pcj_rows.specs.Registrations.{IsQueryTree}
 use Rattle.pcj_registrations.specs.declared.registration.Registration.{Registration}
 use Rattle.pcj_session.specs.Registry.{AreRebuilt, AreRegistrations}
 

@@ -12,7 +12,7 @@ use Rattle.pcj_moves.specs.Actors.{Actor}
 use Rattle.pcj_algebra.specs.declared.query.Query.{Query}
 use Rattle.pcj_tree.specs.declared.tree.Tree.{Tree}
 use Rattle.pcj_tree.specs.Tree.{IsTree}
-use Rattle.pcj_fit.specs.Triples.{HasTriples}
+use Rattle.pcj_rows.specs.Triples.{HasTriples}
 use Rattle.pcj_client.specs.Job.{Content, Job}
 use Rattle.pcj_client.specs.Job.Content.{Loads, Registers}
 use Rattle.pcj_clients.specs.Clients.{job_of}

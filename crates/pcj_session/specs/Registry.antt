@@ -5,7 +5,7 @@ use Rattle.std.specs.Map.{lookup}
 use Rattle.pcj_term.specs.Order.{same_bytes}
 use Rattle.pcj_algebra.specs.declared.query.Query.{Query}
 use Rattle.pcj_tree.specs.Tree.{IsTree}
-use Rattle.pcj_fit.specs.Registrations.{IsQueryTree}
+use Rattle.pcj_rows.specs.Registrations.{IsQueryTree}
 use Rattle.pcj_registrations.specs.declared.registration.Registration.{Registration}
 use Rattle.pcj_session.specs.declared.registry.Opened.{Opened}
 

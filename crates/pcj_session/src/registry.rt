@@ -3,7 +3,7 @@ ghost use Rattle.std.specs.Option.{option_copied};
 ghost use Rattle.std.specs.Prelude.{◌≡◌, ◌≤◌, ◌++◌, ◌∷◌, Some, None, [], OnOk, IfOk};
 ghost use Rattle.pcj_term.specs.Order.{same_bytes};
 ghost use Rattle.pcj_tree.specs.Tree.{IsTree};
-ghost use Rattle.pcj_fit.specs.Registrations.{IsQueryTree};
+ghost use Rattle.pcj_rows.specs.Registrations.{IsQueryTree};
 ghost use Rattle.pcj_session.specs.Registry.{AreLeft, AreRebuilt, AreRegistrations, Opens};
 
 use indexmap::IndexMap;

@@ -1,5 +1,5 @@
 use Rattle.std.proofs.Common.{◌≡◌, suc, ◌++◌, drop}
-use Rattle.pcj_fit.specs.Plans.{nodes_writes}
+use Rattle.pcj_rows.specs.Plans.{nodes_writes}
 use Rattle.pcj_client.proofs.register_writes.add_nodes.Given as goal
 
 -- with the nodes that are left, all is there

@@ -9,7 +9,7 @@ use Rattle.pcj_oracle.specs.Clock.{clock_key, clock_number, stored_number}
 use Rattle.pcj_mvcc.specs.Reading.{put}
 use Rattle.pcj_term.proofs.ByteLemmas.{other_bytes}
 use Rattle.pcj_mvcc.proofs.Rows.{put_same, put_other, with_row_puts}
-use Rattle.pcj_fit.specs.Rows.{IsClockRow}
+use Rattle.pcj_rows.specs.Rows.{IsClockRow}
 use Rattle.pcj_fit.specs.Laws.{HasClockAlone}
 use Rattle.pcj_samples.specs.Fresh.{IsFresh}
 use Rattle.pcj_samples.proofs.clock.set_first.Goals as goal

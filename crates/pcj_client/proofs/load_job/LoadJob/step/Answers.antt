@@ -5,7 +5,7 @@ use Rattle.pcj_moves.specs.Actors.{Actor}
 use Rattle.pcj_actor.specs.StepLaws.{state_of}
 use Rattle.pcj_fit.specs.Queries.{HasQueries}
 use Rattle.pcj_fit.specs.Sound.{Sound}
-use Rattle.pcj_fit.specs.Triples.{HasTriples}
+use Rattle.pcj_rows.specs.Triples.{HasTriples}
 use Rattle.pcj_actor.specs.Progress.{Progress}
 use Rattle.pcj_client.specs.Job.{Content, HasStepped, IsAtWork, IsJob, Job, Loads, job_of, loaded}
 use Rattle.pcj_client.specs.Events.{CommitsOnce, HasMoved, IsNamed, IsTold, StepsOn, event_of, queries_after, triples_after}

@@ -5,7 +5,7 @@ use Rattle.pcj_actor.specs.StepLaws.{state_of}
 use Rattle.pcj_actor.specs.Progress.{Progress}
 use Rattle.pcj_fit.specs.Queries.{HasQueries}
 use Rattle.pcj_fit.specs.Sound.{Sound}
-use Rattle.pcj_fit.specs.Triples.{HasTriples}
+use Rattle.pcj_rows.specs.Triples.{HasTriples}
 use Rattle.pcj_client.specs.Job.{Content, GoesOn, IsJob, Job, Registers, has_found, job_of, loaded}
 use Rattle.pcj_client.specs.Events.{CommitsOnce, HasMoved, IsNamed, IsTold, StepsOn, queries_after, register_event, triples_after}
 use Rattle.pcj_client.proofs.RegisterLemmas.{goes_on_begun, may_begin, register_commits_once, register_job_of, register_keeps_triples, register_tells, registers_on, registers_work, same_answers, step_changes_queries}

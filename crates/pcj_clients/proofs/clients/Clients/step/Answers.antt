@@ -2,7 +2,7 @@ use Rattle.std.proofs.Common.{rules, ◌≡◌, List, ◌∷◌, ◌++◌, Optio
 use Rattle.pcj_table.specs.Table.{row_at}
 use Rattle.pcj_actor.specs.Progress.{MakesUpTo}
 use Rattle.pcj_fit.specs.Queries.{HasQueries}
-use Rattle.pcj_fit.specs.Triples.{HasTriples}
+use Rattle.pcj_rows.specs.Triples.{HasTriples}
 use Rattle.pcj_client.specs.Job.{loaded}
 use Rattle.pcj_client.specs.Events.{triples_after}
 use Rattle.pcj_clients.specs.Clients.{IsPlaceOf, after_step, are_apart}

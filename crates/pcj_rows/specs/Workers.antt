@@ -12,18 +12,10 @@ use Rattle.pcj_encode.specs.declared.key_name.KeyName.{KeyName}
 use Rattle.pcj_encode.specs.declared.key_name.KeyName.TheVariants as row
 use Rattle.pcj_encode.specs.Name.{IsName, key_of}
 use Rattle.pcj_moves.specs.declared.answer.Answer.{Answer}
-use Rattle.pcj_moves.specs.Reads.{covers, finds}
-use Rattle.pcj_fit.specs.Values.{IsCursor}
+use Rattle.pcj_rows.specs.Reads.{HasRead}
+use Rattle.pcj_rows.specs.Values.{IsCursor}
 
 -- ---- what was read
-
--- the row of this name was read, and had this value
-pub record HasRead (answers : List Answer) (name : KeyName) (value : List ℕ) : Type 0 where
-  pub valid : IsName name
-  pub answer : Answer
-  pub held : Contains answers answer
-  pub covered : covers answer (key_of name) ≡ true
-  pub found : finds answer (key_of name) ≡ Some value
 
 -- the printed terms that a name has
 abbrev pub terms_in : Triple → List (List ℕ)

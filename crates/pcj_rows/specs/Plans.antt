@@ -16,8 +16,8 @@ use Rattle.pcj_tree.specs.declared.node.Node.{Node}
 use Rattle.pcj_tree.specs.declared.tree.Tree.{Tree}
 use Rattle.pcj_moves.specs.declared.answer.Answer.{Answer}
 use Rattle.pcj_moves.specs.declared.answer.Answer.TheVariants.{OfRange, OfRow}
-use Rattle.pcj_fit.specs.Registrations.{IsQueryTree, registration_value, value_of}
-use Rattle.pcj_fit.specs.Workers.{IsWorkerPlan}
+use Rattle.pcj_rows.specs.Registrations.{IsQueryTree, registration_value, value_of}
+use Rattle.pcj_rows.specs.Workers.{IsWorkerPlan}
 
 -- ---- loads
 

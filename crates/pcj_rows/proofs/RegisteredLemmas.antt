@@ -14,11 +14,11 @@ use Rattle.pcj_mvcc.specs.Laws.{IsWritten, SameStanding}
 use Rattle.pcj_mvcc.specs.Reading.{Put, Rows, seen, standing, versions_read}
 use Rattle.pcj_moves.specs.StandingLaws.{StandsWhole}
 use Rattle.pcj_moves.proofs.ActorLemmas.{by_number}
-use Rattle.pcj_fit.specs.Origins.{HasOrigin, IsAfter, TasksHaveOrigins}
-use Rattle.pcj_fit.specs.Plans.{registration_writes}
-use Rattle.pcj_fit.specs.Registrations.{IsQueryTree, IsRegistered, RegistrationsStand, pattern_at, registration_value}
-use Rattle.pcj_fit.proofs.RegisterLemmas.{Part, as_backfill, as_pattern, name_written, own_written, part_name, part_write, part_written, register_names}
-use Rattle.pcj_fit.proofs.WriteLemmas.{none_written}
+use Rattle.pcj_rows.specs.Origins.{HasOrigin, IsAfter, TasksHaveOrigins}
+use Rattle.pcj_rows.specs.Plans.{registration_writes}
+use Rattle.pcj_rows.specs.Registrations.{IsQueryTree, IsRegistered, RegistrationsStand, pattern_at, registration_value}
+use Rattle.pcj_rows.proofs.RegisterLemmas.{Part, as_backfill, as_pattern, name_written, own_written, part_name, part_write, part_written, register_names}
+use Rattle.pcj_rows.proofs.WriteLemmas.{none_written}
 
 -- ---- where nothing of a registration is written
 

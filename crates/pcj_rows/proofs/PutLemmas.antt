@@ -11,9 +11,9 @@ use Rattle.pcj_encode.specs.Name.{IsName, key_of}
 use Rattle.pcj_mvcc.specs.Acts.{version_of}
 use Rattle.pcj_mvcc.specs.Reading.{Put, Rows, committed, put_of, reading, standing, versions_read, with_lock}
 use Rattle.pcj_moves.specs.Reads.{value_seen}
-use Rattle.pcj_fit.specs.Rows.{Decodes, HoldsVersions, IsLockOf, IsVersionOf}
-use Rattle.pcj_fit.specs.Values.{MayBeDeleted, MayHold}
-use Rattle.pcj_fit.proofs.RowLemmas.{all_with_version, is_written, row_of_name, to_versions}
+use Rattle.pcj_rows.specs.Rows.{Decodes, HoldsVersions, IsLockOf, IsVersionOf}
+use Rattle.pcj_rows.specs.Values.{MayBeDeleted, MayHold}
+use Rattle.pcj_rows.proofs.RowLemmas.{all_with_version, is_written, row_of_name, to_versions}
 
 -- what such a row may have is a put
 put_there : (next : ℕ) (name : KeyName) (found : Option (List ℕ)) → (MayBeDeleted name → ⊥) → MayHold next name found → IsSome found

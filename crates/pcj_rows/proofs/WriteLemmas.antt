@@ -8,9 +8,9 @@ use Rattle.pcj_encode.proofs.Names.{names_one_row}
 use Rattle.pcj_encode.specs.declared.key_name.KeyName.{KeyName}
 use Rattle.pcj_encode.specs.Name.{IsName, key_of}
 use Rattle.pcj_moves.specs.Transactions.{write_at}
-use Rattle.pcj_fit.specs.Names.{IsGranted, IsNameGranted}
-use Rattle.pcj_fit.specs.Values.{MayHold}
-use Rattle.pcj_fit.proofs.RowLemmas.{is_written}
+use Rattle.pcj_rows.specs.Names.{IsGranted, IsNameGranted}
+use Rattle.pcj_rows.specs.Values.{MayHold}
+use Rattle.pcj_rows.proofs.RowLemmas.{is_written}
 
 -- ---- what may be written
 

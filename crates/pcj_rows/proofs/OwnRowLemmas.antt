@@ -25,13 +25,13 @@ use Rattle.pcj_moves.specs.Transactions.{primary_of, write_at}
 use Rattle.pcj_moves.proofs.ActorLemmas.{by_number}
 use Rattle.pcj_moves.proofs.WriteLemmas.{distinct_are_there}
 use Rattle.pcj_moves.specs.Moves.{IsConsistent}
-use Rattle.pcj_fit.specs.OwnRows.{AreOwnFrom, IsOwnRow}
-use Rattle.pcj_fit.specs.Plans.{HasPlan, absent_of, load_writes, registration_writes}
-use Rattle.pcj_fit.specs.Rows.{Decodes}
-use Rattle.pcj_fit.proofs.PlanLemmas.{Mark, absent_all, as_task, by_order, load_names, mark_name}
-use Rattle.pcj_fit.proofs.RegisterLemmas.{register_names}
-use Rattle.pcj_fit.proofs.WorkerLemmas.{work_leaves}
-use Rattle.pcj_fit.proofs.WriteLemmas.{none_written}
+use Rattle.pcj_rows.specs.OwnRows.{AreOwnFrom, IsOwnRow}
+use Rattle.pcj_rows.specs.Plans.{HasPlan, absent_of, load_writes, registration_writes}
+use Rattle.pcj_rows.specs.Rows.{Decodes}
+use Rattle.pcj_rows.proofs.PlanLemmas.{Mark, absent_all, as_task, by_order, load_names, mark_name}
+use Rattle.pcj_rows.proofs.RegisterLemmas.{register_names}
+use Rattle.pcj_rows.proofs.WorkerLemmas.{work_leaves}
+use Rattle.pcj_rows.proofs.WriteLemmas.{none_written}
 
 -- ---- one row
 
@@ -130,7 +130,7 @@ new_are_own number rows decodes registration le numbered = by (has_nothing (rows
     by true none = subst (IsOwnRow registration) (sym (no_row_is (rows (key_of (row.Registration registration))) none)) (record { lock = λ lock e. absurd cc; versions = refl })
     by false some =
         let is = decodes (key_of (row.Registration registration)) some in
-        let granted = subst (Rattle.pcj_fit.specs.Names.IsNameGranted number) (sym (names_one_row (row.Registration registration) is.name numbered is.valid is.is)) is.granted in
+        let granted = subst (Rattle.pcj_rows.specs.Names.IsNameGranted number) (sym (names_one_row (row.Registration registration) is.name numbered is.valid is.is)) is.granted in
         absurd (let lt = granted.1 in omega (arith, lt, le))
 
 -- ---- a row that is written first

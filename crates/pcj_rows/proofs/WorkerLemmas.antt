@@ -27,14 +27,15 @@ use Rattle.pcj_moves.specs.Moves.{AreBelow}
 use Rattle.pcj_moves.specs.Reads.{Reads, value_seen}
 use Rattle.pcj_moves.specs.Transactions.{write_at}
 use Rattle.pcj_moves.specs.declared.answer.Answer.{Answer}
-use Rattle.pcj_fit.specs.Names.{IsCellGranted, IsGranted, IsNameGranted, IsTaskGranted, IsTermGranted, IsTripleGranted}
-use Rattle.pcj_fit.specs.Origins.{HasOrigin, IsAfter}
-use Rattle.pcj_fit.specs.Rows.{Decodes}
-use Rattle.pcj_fit.specs.Values.{MayHold}
-use Rattle.pcj_fit.specs.Workers.{HasRead, IsAdded, IsAddedName, IsAddedTask, IsFromRead, IsReadCell, IsWorkerPlan, MayMoveTo, cells_in, cells_of_task, registration_in, task_registration, terms_in}
-use Rattle.pcj_fit.proofs.EachLemmas.{all_map, of_each}
-use Rattle.pcj_fit.proofs.TimeLemmas.{seen_is_standing}
-use Rattle.pcj_fit.proofs.WriteLemmas.{CanWrite, EachWrite, IsNamed, found_is, none_written}
+use Rattle.pcj_rows.specs.Names.{IsCellGranted, IsGranted, IsNameGranted, IsTaskGranted, IsTermGranted, IsTripleGranted}
+use Rattle.pcj_rows.specs.Origins.{HasOrigin, IsAfter}
+use Rattle.pcj_rows.specs.Rows.{Decodes}
+use Rattle.pcj_rows.specs.Values.{MayHold}
+use Rattle.pcj_rows.specs.Reads.{HasRead}
+use Rattle.pcj_rows.specs.Workers.{IsAdded, IsAddedName, IsAddedTask, IsFromRead, IsReadCell, IsWorkerPlan, MayMoveTo, cells_in, cells_of_task, registration_in, task_registration, terms_in}
+use Rattle.pcj_rows.proofs.EachLemmas.{all_map, of_each}
+use Rattle.pcj_rows.proofs.TimeLemmas.{seen_is_standing}
+use Rattle.pcj_rows.proofs.WriteLemmas.{CanWrite, EachWrite, IsNamed, found_is, none_written}
 
 -- ---- what was read
 

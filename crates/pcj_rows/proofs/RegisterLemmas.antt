@@ -17,11 +17,11 @@ use Rattle.pcj_tree.specs.Meaning.{numbered}
 use Rattle.pcj_tree.specs.Tree.{AreNodes, filtered, joined, size_of, triple, united}
 use Rattle.pcj_tree.proofs.StoredLaws.{size_filter, size_join, size_triple, size_union}
 use Rattle.pcj_moves.specs.Transactions.{are_distinct, write_at}
-use Rattle.pcj_fit.specs.Names.{IsGranted}
-use Rattle.pcj_fit.specs.Plans.{nodes_writes, pattern_writes, put_mark, put_value, registration_writes}
-use Rattle.pcj_fit.specs.Registrations.{IsQueryTree, pattern_at, pattern_value, registration_value, value_of}
-use Rattle.pcj_fit.specs.Values.{IsValue}
-use Rattle.pcj_fit.proofs.WriteLemmas.{CanWrite, EachWrite, IsNamed, keys_differ, none_written}
+use Rattle.pcj_rows.specs.Names.{IsGranted}
+use Rattle.pcj_rows.specs.Plans.{nodes_writes, pattern_writes, put_mark, put_value, registration_writes}
+use Rattle.pcj_rows.specs.Registrations.{IsQueryTree, pattern_at, pattern_value, registration_value, value_of}
+use Rattle.pcj_rows.specs.Values.{IsValue}
+use Rattle.pcj_rows.proofs.WriteLemmas.{CanWrite, EachWrite, IsNamed, keys_differ, none_written}
 
 -- ---- how many nodes there are
 

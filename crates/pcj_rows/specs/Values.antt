@@ -9,8 +9,8 @@ use Rattle.pcj_encode.specs.declared.key_name.KeyName.{KeyName}
 use Rattle.pcj_encode.specs.declared.key_name.KeyName.TheVariants as row
 use Rattle.pcj_encode.specs.Name.{IsName, key_of, registration_part}
 use Rattle.pcj_tree.specs.declared.tree.Tree.{Tree}
-use Rattle.pcj_fit.specs.Names.{IsGranted, IsNameGranted}
-use Rattle.pcj_fit.specs.Registrations.{IsQueryTree, registration_value}
+use Rattle.pcj_rows.specs.Names.{IsGranted, IsNameGranted}
+use Rattle.pcj_rows.specs.Registrations.{IsQueryTree, registration_value}
 
 -- the value is the key of a name of this kind
 abbrev pub IsKeyOf : ℕ → (KeyName → Type 0) → List ℕ → Type 0

@@ -20,9 +20,9 @@ use Rattle.pcj_encode.specs.declared.key_name.KeyName.TheVariants as row
 use Rattle.pcj_encode.specs.Name.{IsName, key_of}
 use Rattle.pcj_mvcc.proofs.Rows.{put_each}
 use Rattle.pcj_mvcc.specs.Reading.{Rows, put}
-use Rattle.pcj_fit.specs.Names.{IsCellGranted, IsGranted, IsNameGranted, IsTaskGranted, IsTermGranted, IsTripleGranted}
-use Rattle.pcj_fit.specs.Values.{IsCursor, IsKeyOf, IsValue, MayHold}
-use Rattle.pcj_fit.specs.Rows.{Decodes, HoldsVersions, IsDecoded, IsLockOf, IsRowOf, IsVersionOf}
+use Rattle.pcj_rows.specs.Names.{IsCellGranted, IsGranted, IsNameGranted, IsTaskGranted, IsTermGranted, IsTripleGranted}
+use Rattle.pcj_rows.specs.Values.{IsCursor, IsKeyOf, IsValue, MayHold}
+use Rattle.pcj_rows.specs.Rows.{Decodes, HoldsVersions, IsDecoded, IsLockOf, IsRowOf, IsVersionOf}
 
 -- ---- a higher number
 

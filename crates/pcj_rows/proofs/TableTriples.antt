@@ -20,8 +20,8 @@ use Rattle.pcj_encode.specs.Name.{IsName, IsTriple, key_of}
 use Rattle.pcj_encode.proofs.Names.{names_one_row}
 use Rattle.pcj_rowtables.specs.Rows.{triple_key}
 use Rattle.pcj_mvcc.specs.Reading.{Rows, committed, put_of, reading, standing}
-use Rattle.pcj_fit.specs.Rows.{Decodes}
-use Rattle.pcj_fit.specs.Triples.{HasTriples}
+use Rattle.pcj_rows.specs.Rows.{Decodes}
+use Rattle.pcj_rows.specs.Triples.{HasTriples}
 
 -- the triple whose row stands at a key
 record StandsAt (rows : Rows) (key : Key) : Type 0 where

@@ -24,13 +24,13 @@ use Rattle.pcj_moves.specs.declared.answer.Answer.TheVariants.{OfRange, OfRow}
 use Rattle.pcj_mvcc.specs.Reading.{Rows}
 use Rattle.pcj_moves.specs.Reads.{Reads}
 use Rattle.pcj_moves.specs.Transactions.{are_distinct, write_at}
-use Rattle.pcj_fit.specs.Names.{IsGranted, IsTermGranted, IsTripleGranted}
-use Rattle.pcj_fit.specs.Plans.{HasPlan, IsOfLoad, IsTripleOfLoad, absent_of, load_writes, put_mark, registration_writes}
-use Rattle.pcj_fit.specs.Registrations.{IsQueryTree}
-use Rattle.pcj_fit.specs.Rows.{Decodes}
-use Rattle.pcj_fit.proofs.RegisterLemmas.{can_register, register_names}
-use Rattle.pcj_fit.proofs.WorkerLemmas.{can_work, work_leaves}
-use Rattle.pcj_fit.proofs.WriteLemmas.{CanWrite, EachWrite, IsNamed, found_is, none_written}
+use Rattle.pcj_rows.specs.Names.{IsGranted, IsTermGranted, IsTripleGranted}
+use Rattle.pcj_rows.specs.Plans.{HasPlan, IsOfLoad, IsTripleOfLoad, absent_of, load_writes, put_mark, registration_writes}
+use Rattle.pcj_rows.specs.Registrations.{IsQueryTree}
+use Rattle.pcj_rows.specs.Rows.{Decodes}
+use Rattle.pcj_rows.proofs.RegisterLemmas.{can_register, register_names}
+use Rattle.pcj_rows.proofs.WorkerLemmas.{can_work, work_leaves}
+use Rattle.pcj_rows.proofs.WriteLemmas.{CanWrite, EachWrite, IsNamed, found_is, none_written}
 
 -- ---- the rows that are written for a triple
 

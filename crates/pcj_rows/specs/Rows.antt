@@ -10,8 +10,8 @@ use Rattle.pcj_encode.specs.declared.key_name.KeyName.{KeyName}
 use Rattle.pcj_encode.specs.declared.key_name.KeyName.TheVariants as row
 use Rattle.pcj_encode.specs.Name.{IsName, key_of}
 use Rattle.pcj_mvcc.specs.Reading.{Rows}
-use Rattle.pcj_fit.specs.Names.{IsGranted, IsNameGranted}
-use Rattle.pcj_fit.specs.Values.{MayHold}
+use Rattle.pcj_rows.specs.Names.{IsGranted, IsNameGranted}
+use Rattle.pcj_rows.specs.Values.{MayHold}
 
 pub record IsLockOf (next : ℕ) (name : KeyName) (lock : Lock) : Type 0 where
   pub start : IsGranted next lock.start

@@ -1,0 +1,12 @@
+pub mod RowLemmas
+pub mod OldLemmas
+pub mod WriteLemmas
+pub mod EachLemmas
+pub mod TimeLemmas
+pub mod WorkerLemmas
+pub mod RegisterLemmas
+pub mod RegisteredLemmas
+pub mod PlanLemmas
+pub mod OwnRowLemmas
+pub mod PutLemmas
+pub mod TableTriples

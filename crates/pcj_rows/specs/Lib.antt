@@ -1,0 +1,11 @@
+pub mod Names
+pub mod Registrations
+pub mod Values
+pub mod Rows
+pub mod Origins
+pub mod Reads
+pub mod Triples
+pub mod Workers
+pub mod Plans
+pub mod OwnRows
+pub mod Laws
