@@ -113,7 +113,7 @@ read_is_held oracle table table' others self new start answers task recovery (An
   Read answer ∷ [],
   inl (answer, subst (λ (p : Progress). IsReading p.task) view reading, refl),
   (
-    subst (λ (p : Progress). IsRead (row_at table) p.actor.start answer) view told,
+    subst (λ (p : Progress). IsRead (row_at table) p.actor.start answer) view told.0,
     (ap (next_number oracle) same, ap row_at same, ap (λ (p : Progress). p.actor) (here answer refl) ∙ ap (λ (p : Progress). with_answer p.actor answer) view),
   ),
 )
@@ -206,7 +206,7 @@ pub held_tells : (oracle : Option Block) (table table' : Table) (self new : Prog
 held_tells oracle table table' self new start answers task recovery (Answered answer) event view same read of here met is =
     subst (λ e. Tells self oracle table e new oracle table') (sym is)
     (subst (λ (p : Progress). Answers p table new × TableStays oracle table oracle table') view
-    (record { answer = answer; of = of; read = λ readable. read readable.0 readable.1; next = here answer refl }, record { numbers = refl; rows = same }))
+    (record { answer = answer; of = of; read = λ readable. (read readable.0 readable.1).0; within = λ readable. (read readable.0 readable.1).1; next = here answer refl }, record { numbers = refl; rows = same }))
 held_tells oracle table table' self new start answers task recovery (Met key lock) event view same read of here met is =
     subst (λ e. Tells self oracle table e new oracle table') (sym is)
     (subst (λ (p : Progress). Meets p table new × TableStays oracle table oracle table') view

@@ -7,7 +7,7 @@ use Rattle.pcj_mvcc.specs.Reading.{Rows, lock_up_to, acted, allows}
 use Rattle.pcj_moves.specs.Reads.{IsRead}
 use Rattle.pcj_table.specs.declared.lock.Lock.{Lock}
 use Rattle.pcj_moves.specs.declared.answer.Answer.{Answer}
-use Rattle.pcj_table.specs.Table.{Key, Table, row_at}
+use Rattle.pcj_table.specs.Table.{Key, Table, is_between, row_at}
 use Rattle.pcj_oracle.specs.declared.block.Block.{Block}
 use Rattle.pcj_oracle.specs.Clock.{clock_key, next_number}
 use Rattle.pcj_table.specs.declared.plain.Plain.{Plain}
@@ -77,9 +77,15 @@ ReadsNoPlain (Next range) rows = shown.HasNoPlain (ask.Next range) rows
 ReadsNoPlain (Put key plain) rows = Unit {0}
 ReadsNoPlain (Write progress) rows = Unit {0}
 
+-- what a walk found lies in its range
+abbrev pub IsWithin : Answer → Type 0
+IsWithin (OfRow key found) = Unit {0}
+IsWithin (OfRange after end None) = Unit {0}
+IsWithin (OfRange after end (Some pair)) = is_between after end pair.key ≡ true
+
 -- what was read is what is seen, or a lock of that time or before stands in the row
 abbrev pub IsTold : Told → ℕ → Rows → Type 0
-IsTold (Answered answer) at rows = IsRead rows at answer
+IsTold (Answered answer) at rows = IsRead rows at answer × IsWithin answer
 IsTold (Met key lock) at rows = lock_up_to at (rows key).lock ≡ Some lock
 
 abbrev pub IsReading : Task → Type 0
@@ -144,6 +150,7 @@ pub record Answers (old : Progress) (table : Table) (new : Progress) : Type 0 wh
   pub answer : Answer
   pub of : IsAnswerOf old.task answer
   pub read : AreReadable old.task (row_at table) → IsRead (row_at table) old.actor.start answer
+  pub within : AreReadable old.task (row_at table) → IsWithin answer
   pub next : new ≡ with_held old answer
 
 -- a lock stands in the row that was to be read or locked
