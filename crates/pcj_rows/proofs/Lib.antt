@@ -10,3 +10,4 @@ pub mod PlanLemmas
 pub mod OwnRowLemmas
 pub mod PutLemmas
 pub mod TableTriples
+pub mod ValueLemmas

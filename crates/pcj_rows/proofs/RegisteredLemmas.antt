@@ -38,7 +38,7 @@ same_reading before after same = record {
     stays : (key : Key) → SameStanding before after key
     stays key = same_standing before after key (ap (λ (read : Key → List Version). read key) same)
 
-registered_same : (before after : Rows) (registration : ℕ) (name : List ℕ) (tree : Tree) (commit : ℕ) → SameRegistrations before after → IsRegistered before registration name tree commit → IsRegistered after registration name tree commit
+pub registered_same : (before after : Rows) (registration : ℕ) (name : List ℕ) (tree : Tree) (commit : ℕ) → SameRegistrations before after → IsRegistered before registration name tree commit → IsRegistered after registration name tree commit
 registered_same before after registration name tree commit same is = record {
   number = is.number;
   of_query = is.of_query;

@@ -1,5 +1,5 @@
 -- What was read: which rows were found, and which have nothing.
-use Rattle.std.specs.Prelude.{◌≡◌, ℕ, true, List, Option, Some, None, IsSome}
+use Rattle.std.specs.Prelude.{◌≡◌, ℕ, true, List, Some, None, IsSome}
 use Rattle.std.specs.List.{Contains}
 use Rattle.pcj_table.specs.Table.{Key}
 use Rattle.pcj_encode.specs.declared.key_name.KeyName.{KeyName}
