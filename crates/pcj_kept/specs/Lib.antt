@@ -1,0 +1,5 @@
+pub mod Matches
+pub mod Passes
+pub mod Exports
+pub mod Kept
+pub mod Laws
