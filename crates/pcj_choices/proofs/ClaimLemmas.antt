@@ -146,7 +146,7 @@ act_kept F P Q kept number rows actor others move key is other has may consisten
     act = acts_under_choice number rows actor stands.mover choice move key is may free stands.is
 
 -- a choice leaves the plain value of each row
-plain_stays : (chosen : Option ℕ) (row : Row) → (choices.with_commit chosen row).plain ≡ row.plain
+pub plain_stays : (chosen : Option ℕ) (row : Row) → (choices.with_commit chosen row).plain ≡ row.plain
 plain_stays None row = refl
 plain_stays (Some commit) row = by row.lock
   where

@@ -1,12 +1,13 @@
 -- Every move keeps the rows fit.
-use Rattle.std.proofs.Common.{◌≡◌, ◌≢◌, ◌⊎◌, inl, inr, ◌<◌, ◌≤◌, ℕ, suc, Bool, true, false, nat_lt, List, [], ◌∷◌, Option, Some, None, refl, ap, sym, subst, ◌∙◌, arith, if◌then◌else◌}
+use Rattle.std.proofs.Common.{◌≡◌, ◌≢◌, ◌⊎◌, inl, inr, ◌<◌, ◌≤◌, ℕ, suc, Bool, true, false, cond, nat_lt, List, [], ◌∷◌, Option, Some, None, IfSome, refl, ap, sym, subst, ◌∙◌, arith, if◌then◌else◌}
 use Rattle.std.proofs.lemmas.Bool.{and_parts, ltb-true}
 use Rattle.std.specs.List.{All, Contains}
 use Rattle.std.specs.Option.{option_map}
-use Rattle.pcj_term.proofs.ByteLemmas.{same_bytes_itself}
+use Rattle.pcj_term.proofs.ByteLemmas.{same_bytes_are, same_bytes_itself}
 use Rattle.pcj_term.proofs.ListLemmas.{first_there}
 use Rattle.pcj_term.specs.declared.triple.Triple.{Triple}
-use Rattle.pcj_table.specs.Row.{newest, updated}
+use Rattle.pcj_term.specs.Order.{same_bytes}
+use Rattle.pcj_table.specs.Row.{newest, updated, updated_all}
 use Rattle.pcj_table.specs.Table.{Key}
 use Rattle.pcj_table.specs.declared.lock.Lock.{Lock}
 use Rattle.pcj_table.specs.declared.plain.Plain.{Plain}
@@ -18,9 +19,10 @@ use Rattle.pcj_encode.specs.declared.order.Order.TheVariants.{Spo, Pos, Osp}
 use Rattle.pcj_encode.specs.declared.task_name.TaskName.{TaskName}
 use Rattle.pcj_encode.specs.declared.task_name.TaskName.TheVariants as task
 use Rattle.pcj_encode.specs.declared.key_name.KeyName.TheVariants as row
-use Rattle.pcj_encode.specs.Name.{IsNode, IsRegistration, IsTriple, key_of}
+use Rattle.pcj_encode.specs.Name.{IsName, IsNode, IsRegistration, IsTriple, key_of}
 use Rattle.pcj_tree.specs.declared.tree.Tree.{Tree}
 use Rattle.pcj_rowtables.specs.Rows.{triple_key}
+use Rattle.pcj_oracle.specs.Clock.{clock_key}
 use Rattle.pcj_mvcc.proofs.Laws.{lock_there, replaced, rolled_back, same_standing}
 use Rattle.pcj_mvcc.specs.Laws.{SameStanding}
 use Rattle.pcj_mvcc.proofs.Versions.{version_of_start}
@@ -51,14 +53,19 @@ use Rattle.pcj_rows.specs.Plans.{HasPlan, IsLoadPlan, IsRegisterPlan, absent_of,
 use Rattle.pcj_rows.specs.Registrations.{RegistrationsStand}
 use Rattle.pcj_rows.specs.Rows.{Decodes, HoldsVersions, IsVersionOf}
 use Rattle.pcj_rows.specs.Names.{IsGranted}
-use Rattle.pcj_fit.specs.Sound.{IsClockPlain, IsFrom, MayWritePlain}
+use Rattle.pcj_fit.specs.Sound.{HasExported, IsClockPlain, IsFrom, MayWritePlain}
 use Rattle.pcj_rows.specs.Workers.{IsExport, IsWorkerPlan, export_line}
+use Rattle.pcj_nodes.specs.Commits.{Base, Commits, HasWritten, IsPlainFrom}
+use Rattle.pcj_kept.specs.Kept.{Kept}
+use Rattle.pcj_duties.specs.Observers.{HasPurpose}
+use Rattle.pcj_kept.proofs.KeptLemmas.{commits_keep_all, exports_keep_all, readings_say_all}
+use Rattle.pcj_duties.proofs.WorkLemmas.{purposes_are_plans}
 use Rattle.pcj_fit.proofs.NumberLemmas.{apart_committed, apart_kept, apart_locked}
 use Rattle.pcj_rows.proofs.OwnRowLemmas.{own_is_empty, own_is_kept, own_replaced}
 use Rattle.pcj_rows.proofs.OldLemmas.{IsOld, written_is_old}
 use Rattle.pcj_rows.proofs.RegisterLemmas.{as_backfill, as_pattern, name_written, own_written, part_name}
 use Rattle.pcj_rows.proofs.RegisteredLemmas.{Registers, SameRegistrations, backfill_joins, origin_stays, origin_written, registrations_join, registrations_stay, same_reading}
-use Rattle.pcj_rows.proofs.WriteLemmas.{CanWrite, none_written}
+use Rattle.pcj_rows.proofs.WriteLemmas.{CanWrite, keys_differ, none_written}
 use Rattle.pcj_rows.proofs.TimeLemmas.{standing_below}
 use Rattle.pcj_rows.proofs.WorkerLemmas.{IsOwnTask, granted_read, origin_outlasts, own_task, value_read, work_leaves}
 use Rattle.pcj_rows.proofs.PlanLemmas.{Mark, absent_all, as_task, by_order, can_write, is_among, load_names, mark_key, mark_name, mark_unwritten, mark_written, writes_whole, written_by}
@@ -315,9 +322,9 @@ backfill_origins number commit start answers writes before after le below plan w
 
 -- the rows after a move, with what is left to show of them
 assembled : (number : ℕ) (rows : Rows) (actor : Actor) (others : List Actor) (move : Move) → is_primary_commit move ≡ false → IsAllowed move number rows actor →
-    IsConsistent (record { number = number; rows = rows; actors = actor ∷ others }) → Fit number rows → Decodes (number_after move number) (rows_after move actor rows) → NumbersApart (rows_after move actor rows) →
+    IsConsistent (record { number = number; rows = rows; actors = actor ∷ others }) → Fit number rows → Decodes (number_after move number) (rows_after move actor rows) → NumbersApart (rows_after move actor rows) → Kept (rows_after move actor rows) →
     Fit (number_after move number) (rows_after move actor rows)
-assembled number rows actor others move other may consistent fit decodes apart =
+assembled number rows actor others move other may consistent fit decodes apart kept =
     let after = move_is_consistent number rows actor others move may consistent in
     let same = reads_the_same number rows actor others move other may consistent in
     record {
@@ -329,7 +336,25 @@ assembled number rows actor others move other may consistent fit decodes apart =
       atomic = atomic_same rows (rows_after move actor rows) same fit.atomic;
       registered = registrations_stay rows (rows_after move actor rows) (same_reading rows (rows_after move actor rows) same) fit.registered;
       origins = origins_same rows (rows_after move actor rows) same fit.origins;
+      kept = kept;
     }
+
+-- ---- plain values
+
+-- an act on a row leaves them
+pub plains_stay : (rows : Rows) (key : Key) (row : Row) → row.plain ≡ (rows key).plain → (other : Key) → (put rows key row other).plain ≡ (rows other).plain
+plains_stay rows key found same other = by (same_bytes other key) refl
+  where
+    by : (b : Bool) → same_bytes other key ≡ b → (put rows key found other).plain ≡ (rows other).plain
+    by true e = ap (λ c. (cond c found (rows other)).plain) e ∙ same ∙ ap (λ k. (rows k).plain) (sym (same_bytes_are other key e))
+    by false e = ap (λ c. (cond c found (rows other)).plain) e
+
+-- so what is kept stays
+act_keeps : (number : ℕ) (rows : Rows) (actor : Actor) (others : List Actor) (move : Move) (key : Key) (found : Row) → is_primary_commit move ≡ false → IsAllowed move number rows actor →
+    IsConsistent (record { number = number; rows = rows; actors = actor ∷ others }) → rows_after move actor rows ≡ put rows key found → found.plain ≡ (rows key).plain → Kept rows → Kept (rows_after move actor rows)
+act_keeps number rows actor others move key found other may consistent after same kept =
+    readings_say_all rows (rows_after move actor rows) (reads_the_same number rows actor others move other may consistent)
+    (λ registration cells named. ap (λ (r : Rows). (r (key_of (row.Export registration cells))).plain) after ∙ plains_stay rows key found same (key_of (row.Export registration cells))) kept
 
 prewrite_fit : (number : ℕ) (rows : Rows) (actor : Actor) (others : List Actor) (write : Write) → HasPlan actor.start actor.answers actor.transaction.writes → MayPrewrite rows actor write →
     IsConsistent (record { number = number; rows = rows; actors = actor ∷ others }) → Fit number rows → Fit number (rows_after (Prewrite write) actor rows)
@@ -337,6 +362,7 @@ prewrite_fit number rows actor others write plan may consistent fit =
     assembled number rows actor others (Prewrite write) refl may consistent fit
     (written_row number actor.start rows write _ fit.decodes can (record { lock = record { start = can.begun; value = can.value }; versions = holds.versions; plain = holds.plain }))
     (apart_locked rows write.key _ (lock_of write actor.start (primary_of actor.transaction)) consistent.own.0.start refl refl fit.apart)
+    (act_keeps number rows actor others (Prewrite write) write.key _ refl may consistent refl refl fit.kept)
   where
     can : CanWrite number actor.start write
     can = can_write number actor.start rows actor.answers actor.transaction.writes write consistent.older.0.below.start fit.decodes consistent.sound.0.reads plan
@@ -351,6 +377,7 @@ secondary_fit number rows actor others write commit may consistent fit =
     assembled number rows actor others (CommitSecondary write commit) refl may consistent fit
     (decodes_replaced number rows write.key lock commit fit.decodes locked (consistent.older.0.below.commit commit may.drawn))
     (apart_kept rows _ (forwarded rows write.key lock commit consistent.times may.allowed its.now) fit.apart)
+    (act_keeps number rows actor others (CommitSecondary write commit) write.key _ refl may consistent refl refl fit.kept)
   where
     lock : Lock
     lock = lock_of write actor.start (primary_of actor.transaction)
@@ -372,6 +399,7 @@ back_fit number rows actor others key start move other may consistent fit same a
     assembled number rows actor others move other may consistent fit
     (subst (λ n. Decodes n (rows_after move actor rows)) (sym same) (subst (Decodes number) (sym after) (decodes_unlocked number rows key there.0 fit.decodes there.1)))
     (subst NumbersApart (sym after) (apart_kept rows _ (same_versions rows key (rolled_back (rows key)) (λ lock e. absurd cc) refl) fit.apart))
+    (act_keeps number rows actor others move key (rolled_back (rows key)) other may consistent after refl fit.kept)
 
 forward_fit : (number : ℕ) (rows : Rows) (actor : Actor) (others : List Actor) (recovery : Recovery) (commit : ℕ) → IsAllowed (RollForward recovery commit) number rows actor →
     IsConsistent (record { number = number; rows = rows; actors = actor ∷ others }) → Fit number rows → Fit number (rows_after (RollForward recovery commit) actor rows)
@@ -379,6 +407,7 @@ forward_fit number rows actor others recovery commit may consistent fit =
     assembled number rows actor others (RollForward recovery commit) refl may consistent fit
     (decodes_replaced number rows recovery.key recovery.lock commit fit.decodes locked lower)
     (apart_kept rows _ (forwarded rows recovery.key recovery.lock commit consistent.times may.2 known) fit.apart)
+    (act_keeps number rows actor others (RollForward recovery commit) recovery.key _ refl may consistent refl refl fit.kept)
   where
     recovers : Recovers recovery (traces recovery.lock.start rows)
     recovers = (its_recovery rows actor recovery consistent.sound.0 may.0).0
@@ -396,6 +425,12 @@ forward_fit number rows actor others recovery commit may consistent fit =
     lower = let found = version_of_start (λ version. nat_lt version.commit number) recovery.lock.start commit (rows recovery.lock.primary).versions (consistent.below.versions recovery.lock.primary) known in
         let lt = ltb-true found.0.commit number found.3 in let same = found.2 in omega arith
 
+-- the clock's row is no export's
+other_plain : (rows : Rows) (key : Key) (found : Row) (registration : ℕ) (cells : List (List ℕ)) → key ≡ clock_key → IsName (row.Export registration cells) →
+    (put rows key found (key_of (row.Export registration cells))).plain ≡ (rows (key_of (row.Export registration cells))).plain
+other_plain rows key found registration cells is named = ap (λ c. (cond c found (rows (key_of (row.Export registration cells)))).plain)
+    (subst (λ k. same_bytes (key_of (row.Export registration cells)) k ≡ false) (sym is) (keys_differ (row.Export registration cells) row.Clock named tt (λ e. cc)))
+
 clock_fit : (number : ℕ) (rows : Rows) (actor : Actor) (others : List Actor) (key : Key) (plain : Plain) → IsClockPlain key plain →
     IsConsistent (record { number = number; rows = rows; actors = actor ∷ others }) → Fit number rows → Fit number (rows_after (WritePlain key plain) actor rows)
 clock_fit number rows actor others key plain is consistent fit =
@@ -408,9 +443,14 @@ clock_fit number rows actor others key plain is consistent fit =
       holds = record { lock = clock.lock; versions = clock.versions; value = is.1 };
     }))
     (apart_kept rows _ (same_versions rows key (updated (rows key) (SetPlain plain)) (λ lock e. e) refl) fit.apart)
+    (readings_say_all rows (rows_after (WritePlain key plain) actor rows) (reads_the_same number rows actor others (WritePlain key plain) refl tt consistent)
+    (λ registration cells named. other_plain rows key (updated (rows key) (SetPlain plain)) registration cells is.0 named) fit.kept)
   where
     clock : Rattle.pcj_rows.specs.Rows.IsClockRow (rows key)
     clock = subst (λ k. Rattle.pcj_rows.specs.Rows.IsClockRow (rows k)) (sym is.0) (row_of_name number rows row.Clock fit.decodes tt)
+
+pub base : (number : ℕ) (rows : Rows) → Fit number rows → Base number rows
+base number rows fit = record { decodes = fit.decodes; times = fit.times; atomic = fit.atomic; registered = fit.registered; origins = fit.origins }
 
 export_fit : (number : ℕ) (rows : Rows) (actor : Actor) (others : List Actor) (key : Key) (plain : Plain) → IsExport actor.start actor.answers (rows key).plain key plain →
     IsConsistent (record { number = number; rows = rows; actors = actor ∷ others }) → Fit number rows → Fit number (rows_after (WritePlain key plain) actor rows)
@@ -424,6 +464,7 @@ export_fit number rows actor others key plain is consistent fit =
       holds = record { lock = held.lock; versions = held.versions; line = (subst (IsGranted number) (sym is.number_is) (is.first, consistent.older.0.below.start), export_line is.cells, is.line_is) };
     }))
     (apart_kept rows _ (same_versions rows key (updated (rows key) (SetPlain plain)) (λ lock e. e) refl) fit.apart)
+    (exports_keep_all number actor.start actor.answers rows key plain (base number rows fit) consistent.sound.0.reads is fit.kept)
   where
     held : Rattle.pcj_rows.specs.Rows.IsExportRow number (rows key)
     held = subst (λ k. Rattle.pcj_rows.specs.Rows.IsExportRow number (rows k)) (sym is.row_is) (row_of_name number rows (row.Export is.registration is.cells) fit.decodes is.read.valid)
@@ -446,6 +487,7 @@ others_fit number rows actor others (Draw commit) other plan consistent may plai
   atomic = fit.atomic;
   registered = fit.registered;
   origins = fit.origins;
+  kept = fit.kept;
 }
 others_fit number rows actor others (CommitPrimary write commit) other plan consistent may plains fit = absurd cc
 others_fit number rows actor others (CommitSecondary write commit) other plan consistent may plains fit = secondary_fit number rows actor others write commit may consistent fit
@@ -468,22 +510,26 @@ pub its_own : (low : ℕ) (rows : Rows) (actor : Actor) → IsFrom low actor →
 its_own low rows actor (inl none) own first numbered = absurd (omega (arith, none, first))
 its_own low rows actor (inr le) own first numbered = own actor.start le numbered
 
-last_fit : (low number : ℕ) (rows : Rows) (actor : Actor) (others : List Actor) (write : Write) (commit : ℕ) → HasPlan actor.start actor.answers actor.transaction.writes → IsLast number rows actor others write commit →
-    IsFrom low actor → AreOwnFrom low rows → Fit number rows → Fit (suc commit) (acted rows write.key (commit_act write actor.start commit))
-last_fit low number rows actor others write commit plan last from own fit = record {
+last_fit : (low number : ℕ) (rows : Rows) (actor : Actor) (others : List Actor) (write : Write) (commit : ℕ) → HasPurpose actor.start actor.answers actor.transaction.writes → IsLast number rows actor others write commit →
+    IsFrom low actor → AreOwnFrom low rows → HasExported rows actor → Fit number rows → Fit (suc commit) (acted rows write.key (commit_act write actor.start commit))
+last_fit low number rows actor others write commit purpose last from own exported fit = record {
   decodes = decodes_replaced (suc commit) rows write.key lock commit (decodes_later number (suc commit) rows (omega arith) fit.decodes) locked (omega arith);
   times = after.times;
   named = after.named;
   once = after.once;
   apart = apart_committed number rows write.key lock commit last.draws.granted last.consistent.below locked none last.consistent.own.0.start fit.times.first fit.apart;
   atomic = atomic_whole actor.start actor.answers actor.transaction.writes commit rows _ plan whole fit.atomic;
-  registered = registered_whole actor.start actor.answers actor.transaction.writes commit rows _ plan whole (λ key write is. old key write is) last.consistent.sound.0.reads (its_own low rows actor from own) fit.registered;
+  registered = registered;
   origins = record {
     triples = triple_origins number commit actor.start actor.answers actor.transaction.writes rows _ last.draws.granted last.consistent.below plan whole (λ key write is. old key write is) last.consistent.sound.0.reads fit.origins;
     backfills = backfill_origins number commit actor.start actor.answers actor.transaction.writes rows _ last.draws.granted last.consistent.below plan whole (λ key write is. old key write is) last.consistent.sound.0.reads (its_own low rows actor from own) fit.origins;
   };
+  kept = commits_keep_all number commit actor.start actor.answers actor.transaction.writes rows _ commits purpose exported fit.kept;
 }
   where
+    plan : HasPlan actor.start actor.answers actor.transaction.writes
+    plan = purposes_are_plans actor.start actor.answers actor.transaction.writes purpose
+
     drawn : Actor
     drawn = with_transaction actor (with_commit actor.transaction commit)
 
@@ -508,6 +554,27 @@ last_fit low number rows actor others write commit plan last from own fit = reco
     old : (key : Key) (other : Write) → write_at actor.transaction.writes key ≡ Some other → IsOld rows actor.start key
     old key other is = written_is_old rows actor.start drawn.transaction commit key other consistent.times consistent.sound.0.transacts at.ripe is
 
+    registered : RegistrationsStand (acted rows write.key (commit_act write actor.start commit))
+    registered = registered_whole actor.start actor.answers actor.transaction.writes commit rows _ plan whole (λ key write is. old key write is) last.consistent.sound.0.reads (its_own low rows actor from own) fit.registered
+
+    commits : Commits number commit actor.start actor.answers actor.transaction.writes rows (acted rows write.key (commit_act write actor.start commit))
+    commits = record {
+      base = base number rows fit;
+      after_times = after.times;
+      registered = registered;
+      whole = whole;
+      old = λ key write is. (old key write is).seen_then;
+      reads = last.consistent.sound.0.reads;
+      begun = last.consistent.older.0.below.start;
+      granted = last.draws.granted;
+      below = last.consistent.below;
+      apart = last.consistent.own.0.start;
+      fresh = λ name tree its.
+          let registers = plan_registers actor.start actor.answers actor.transaction.writes name tree commit rows _ its whole (λ key write is. old key write is) last.consistent.sound.0.reads (its_own low rows actor from own) in
+          (registers.unnamed, registers.new);
+      plains = plains_stay rows write.key (updated_all (rows write.key) (commit_act write actor.start commit).updates) refl;
+    }
+
     lock : Lock
     lock = lock_of write actor.start write.key
 
@@ -517,22 +584,61 @@ last_fit low number rows actor others write commit plan last from own fit = reco
     none : commit_of actor.start (rows write.key).versions ≡ None
     none = ap (λ t. option_map (λ v. v.commit) t.version) at.was
 
--- fit rows of which those of later registrations are their own
-abbrev pub FitFrom : ℕ → ℕ → Rows → Type 0
-FitFrom low number rows = Fit number rows × AreOwnFrom low rows
+-- ---- lines that were exported stay
 
-abbrev pub PlanFrom : ℕ → ℕ → List Answer → List Write → Type 0
-PlanFrom low start answers writes = HasPlan start answers writes × ((start ≡ 0) ⊎ (low ≤ start))
+-- a plain value that is written has the highest number yet
+rises : (rows : Rows) (actor : Actor) (move : Move) (start registration : ℕ) (cells : List (List ℕ)) → WritesOnly MayWritePlain rows actor move → IsName (row.Export registration cells) →
+    IsPlainFrom start (rows (key_of (row.Export registration cells))).plain → IsPlainFrom start (rows_after move actor rows (key_of (row.Export registration cells))).plain
+rises rows actor (Plan writes) start registration cells plains named is = is
+rises rows actor (Prewrite write) start registration cells plains named is = subst (IsPlainFrom start) (sym (plains_stay rows write.key _ refl (key_of (row.Export registration cells)))) is
+rises rows actor (Draw commit) start registration cells plains named is = is
+rises rows actor (CommitPrimary write commit) start registration cells plains named is = subst (IsPlainFrom start) (sym (plains_stay rows write.key _ refl (key_of (row.Export registration cells)))) is
+rises rows actor (CommitSecondary write commit) start registration cells plains named is = subst (IsPlainFrom start) (sym (plains_stay rows write.key _ refl (key_of (row.Export registration cells)))) is
+rises rows actor (CommitNothing commit) start registration cells plains named is = is
+rises rows actor (Read answer) start registration cells plains named is = is
+rises rows actor (Meet key lock) start registration cells plains named is = is
+rises rows actor (Learn recovery) start registration cells plains named is = is
+rises rows actor (DropPrimary recovery) start registration cells plains named is = subst (IsPlainFrom start) (sym (plains_stay rows recovery.lock.primary _ refl (key_of (row.Export registration cells)))) is
+rises rows actor (RollBack recovery) start registration cells plains named is = subst (IsPlainFrom start) (sym (plains_stay rows recovery.key _ refl (key_of (row.Export registration cells)))) is
+rises rows actor (RollForward recovery commit) start registration cells plains named is = subst (IsPlainFrom start) (sym (plains_stay rows recovery.key _ refl (key_of (row.Export registration cells)))) is
+rises rows actor EndRecovery start registration cells plains named is = is
+rises rows actor (WritePlain key plain) start registration cells (inl clock) named is = subst (IsPlainFrom start) (sym (other_plain rows key (updated (rows key) (SetPlain plain)) registration cells clock.0 named)) is
+rises rows actor (WritePlain key plain) start registration cells (inr line) named is = by (same_bytes (key_of (row.Export registration cells)) key) refl
+  where
+    own : Key
+    own = key_of (row.Export registration cells)
 
-pub fit_is_kept : (low : ℕ) → IsKept (FitFrom low) (PlanFrom low) MayWritePlain
-fit_is_kept low = record {
+    later : (old : Option Plain) → IfSome old (λ other. other.seq < actor.start) → IsPlainFrom start old → start ≤ plain.seq
+    later None lower from = absurd from
+    later (Some other) lower from = let same = line.number_is in omega (arith, lower, from, same)
+
+    by : (b : Bool) → same_bytes own key ≡ b → IsPlainFrom start (put rows key (updated (rows key) (SetPlain plain)) own).plain
+    by true e = subst (λ c. IsPlainFrom start (cond c (updated (rows key) (SetPlain plain)) (rows own)).plain) (sym e) (later (rows key).plain line.later (subst (λ k. IsPlainFrom start (rows k).plain) (same_bytes_are own key e) is))
+    by false e = subst (λ c. IsPlainFrom start (cond c (updated (rows key) (SetPlain plain)) (rows own)).plain) (sym e) is
+
+pub written_after : (rows : Rows) (actor : Actor) (move : Move) (start : ℕ) (writes : List Write) → WritesOnly MayWritePlain rows actor move → HasWritten start writes rows → HasWritten start writes (rows_after move actor rows)
+written_after rows actor move start writes plains written registration cells named is = rises rows actor move start registration cells plains named (written registration cells named is)
+
+-- ---- all moves
+
+-- fit rows of which those of later registrations are their own, where what is written at one start has its exported line
+abbrev pub FitFrom : ℕ → ℕ → List Write → ℕ → Rows → Type 0
+FitFrom low start writes number rows = Fit number rows × AreOwnFrom low rows × HasWritten start writes rows
+
+abbrev pub PlanFrom : ℕ → ℕ → List Write → ℕ → List Answer → List Write → Type 0
+PlanFrom low start writes its answers own = HasPurpose its answers own × ((its ≡ 0) ⊎ (low ≤ its)) × (its ≡ start) × (own ≡ writes)
+
+pub fit_is_kept : (low start : ℕ) (writes : List Write) → IsKept (FitFrom low start writes) (PlanFrom low start writes) MayWritePlain
+fit_is_kept low start writes = record {
   others = λ number rows actor others move other plan consistent may plains fit. (
-    others_fit number rows actor others move other plan.0 consistent may plains fit.0,
-    own_is_kept low number rows actor others move plan.0 consistent may fit.1,
+    others_fit number rows actor others move other (purposes_are_plans actor.start actor.answers actor.transaction.writes plan.0) consistent may plains fit.0,
+    own_is_kept low number rows actor others move (purposes_are_plans actor.start actor.answers actor.transaction.writes plan.0) consistent may fit.1,
+    written_after rows actor move start writes plains fit.2,
   );
   last = λ number rows actor others write commit plan last fit. (
-    last_fit low number rows actor others write commit plan.0 last plan.1 fit.1 fit.0,
-    let there = lock_there (rows write.key).lock actor.start (and_parts _ _ last.allowed).0 in
-        own_replaced low rows write.key (version_of (lock_of write actor.start write.key) commit) there.0 there.1 there.2 fit.1,
+    last_fit low number rows actor others write commit plan.0 last plan.1 fit.1 (subst (λ s. HasWritten s actor.transaction.writes rows) (sym plan.2) (subst (λ ws. HasWritten start ws rows) (sym plan.3) fit.2)) fit.0,
+    (let there = lock_there (rows write.key).lock actor.start (and_parts _ _ last.allowed).0 in
+        own_replaced low rows write.key (version_of (lock_of write actor.start write.key) commit) there.0 there.1 there.2 fit.1),
+    written_after rows actor (CommitPrimary write commit) start writes tt fit.2,
   );
 }

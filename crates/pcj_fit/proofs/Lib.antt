@@ -6,3 +6,4 @@ pub mod QueryLemmas
 pub mod StepLemmas
 pub mod WorkLemmas
 pub mod TableQueries
+pub mod FinderLemmas

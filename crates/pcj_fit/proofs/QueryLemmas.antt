@@ -7,14 +7,10 @@ use Rattle.pcj_term.proofs.ByteLemmas.{same_bytes_itself}
 use Rattle.pcj_term.proofs.ListLemmas.{first_or_later, first_there, later_there, nothing_in}
 use Rattle.pcj_table.specs.declared.write.Write.{Write}
 use Rattle.pcj_table.specs.Table.{Key}
-use Rattle.pcj_key.proofs.Keys.{injective}
 use Rattle.pcj_encode.proofs.Numbers.{registration_again}
 use Rattle.pcj_encode.specs.declared.key_name.KeyName.TheVariants as row
 use Rattle.pcj_encode.specs.Name.{key_of, registration_part}
 use Rattle.pcj_tree.specs.declared.tree.Tree.{Tree}
-use Rattle.pcj_tree.specs.Read.{IsStorable}
-use Rattle.pcj_tree.specs.Stored.{stored_tree}
-use Rattle.pcj_tree.proofs.StoredLaws.{can_be_stored, stores_one_tree}
 use Rattle.pcj_mvcc.specs.Reading.{Put, Rows, standing}
 use Rattle.pcj_moves.specs.declared.answer.Answer.TheVariants.{OfRow}
 use Rattle.pcj_moves.specs.Actors.{Actor}
@@ -26,12 +22,13 @@ use Rattle.pcj_moves.proofs.ConsistencyLemmas.{its_first}
 use Rattle.pcj_moves.proofs.StandingLemmas.{one_move_changes}
 use Rattle.pcj_moves.proofs.StepLemmas.{AtPrimary, at_primary}
 use Rattle.pcj_choices.proofs.ClaimLemmas.{reads_the_same}
+use Rattle.pcj_rows.proofs.ValueLemmas.{one_put, one_value}
 use Rattle.pcj_fit.specs.Fit.{Fit}
 use Rattle.pcj_fit.specs.Laws.{state_of}
 use Rattle.pcj_rows.specs.Plans.{IsRegisterPlan, absent_of}
 use Rattle.pcj_fit.specs.Queries.{Ascend, HasQueries, IsValidRegistration, Registration, StandsAs, added}
 use Rattle.pcj_fit.specs.QueryLaws.{LoadsLeaveQueries, MovesLeaveQueries, NamesAreDistinct, ReadNamesAreKnown, RegistrationsAddTheirs}
-use Rattle.pcj_rows.specs.Registrations.{IsQueryTree, IsRegistered, RegistrationsStand, registration_value}
+use Rattle.pcj_rows.specs.Registrations.{IsRegistered, RegistrationsStand, registration_value}
 use Rattle.pcj_fit.specs.Sound.{Sound}
 use Rattle.pcj_fit.proofs.FitLemmas.{its_own, load_leaves, plan_registers}
 use Rattle.pcj_rows.proofs.EachLemmas.{each_of, of_each}
@@ -102,25 +99,6 @@ ascend_added new (first ∷ known) ascend apart = by (nat_lt new.number first.nu
         let le = ltb-false new.number first.number e in
         let differs = All-head (λ (other : Registration). other.number ≢ new.number) first known apart in
         (all_added (λ (later : Registration). first.number < later.number) new known (omega (arith, le, differs)) ascend.0, rest)
-
--- ---- values
-
-storable : (tree : Tree) → IsQueryTree tree → IsStorable tree
-storable tree is = can_be_stored is.query tree is.storable is.is
-
--- a value is that of one name and one tree
-pub one_value : (name other : List ℕ) (tree its : Tree) → IsQueryTree tree → IsQueryTree its → registration_value name tree ≡ registration_value other its → (name ≡ other) × (tree ≡ its)
-one_value name other tree its is is' e =
-    let parts : name ∷ stored_tree tree ∷ [] ≡ other ∷ stored_tree its ∷ [] = injective (name ∷ stored_tree tree ∷ []) (other ∷ stored_tree its ∷ []) e in
-    let stored : stored_tree tree ≡ stored_tree its = cc in
-    ((cc), stores_one_tree tree its (storable tree is) (storable its is') stored)
-
-pub one_put : (found : Option Put) (value other : List ℕ) (commit at : ℕ) → found ≡ Some (value, commit) → found ≡ Some (other, at) → value ≡ other
-one_put found value other commit at e e' = ap value_or (sym e ∙ e')
-  where
-    value_or : Option Put → List ℕ
-    value_or None = []
-    value_or (Some put) = put.0
 
 pub same_registration : (one other : Registration) → one.name ≡ other.name → one.number ≡ other.number → one.tree ≡ other.tree → one ≡ other
 same_registration one other names numbers trees =

@@ -1,5 +1,5 @@
 -- Every move keeps all sound.
-use Rattle.std.proofs.Common.{◌≡◌, ◌⊎◌, inl, inr, ◌≤◌, ℕ, suc, Bool, true, false, nat_lt, List, [], ◌∷◌, IfSome, refl, ap, sym, subst, arith}
+use Rattle.std.proofs.Common.{◌≡◌, ◌⊎◌, inl, inr, ◌≤◌, ℕ, suc, Bool, true, false, nat_lt, List, [], ◌∷◌, IfSome, refl, ap, sym, subst, ◌∙◌, arith}
 use Rattle.std.proofs.lemmas.Bool.{and_from, lt-ltb}
 use Rattle.std.proofs.lemmas.List.Elements.{All-head, All-tail}
 use Rattle.std.specs.List.{All, list_all}
@@ -8,30 +8,35 @@ use Rattle.pcj_table.specs.Row.{has_nothing}
 use Rattle.pcj_table.specs.Table.{Key}
 use Rattle.pcj_table.specs.declared.row.Row.{Row}
 use Rattle.pcj_table.specs.declared.version.Version.{Version}
+use Rattle.pcj_table.specs.declared.write.Write.{Write}
 use Rattle.pcj_encode.specs.declared.key_name.KeyName.{KeyName}
+use Rattle.pcj_encode.specs.declared.key_name.KeyName.TheVariants as row
+use Rattle.pcj_encode.specs.Name.{key_of}
 use Rattle.pcj_mvcc.proofs.Choices.{not_chosen}
 use Rattle.pcj_mvcc.proofs.Rows.{rows_alike}
 use Rattle.pcj_mvcc.specs.Choices.{Choice, IsChoice, under, with_commit}
 use Rattle.pcj_mvcc.specs.Reading.{Rows}
-use Rattle.pcj_moves.specs.Actors.{Actor, IsOlder, new_actor}
+use Rattle.pcj_moves.specs.Actors.{Actor, Each, IsOlder, new_actor}
 use Rattle.pcj_moves.specs.Recoveries.{Recovery}
 use Rattle.pcj_moves.specs.ChoiceLaws.{IsRipeAt}
-use Rattle.pcj_moves.specs.Moves.{Begins, CommitNothing, CommitPrimary, CommitSecondary, Draw, DropPrimary, EndRecovery, Ends, IsAllowed, Learn, Meet, Move, NumbersAreOwn, Plan, Prewrite, Read, RollBack, RollForward, WritePlain, actor_after, number_after}
+use Rattle.pcj_moves.specs.Moves.{Begins, CommitNothing, CommitPrimary, CommitSecondary, Draw, DropPrimary, EndRecovery, Ends, IsAllowed, Learn, Meet, Move, NumbersAreOwn, Plan, Prewrite, Read, RollBack, RollForward, WritePlain, actor_after, number_after, rows_after}
 use Rattle.pcj_moves.proofs.ConsistencyLemmas.{move_is_consistent}
 use Rattle.pcj_moves.proofs.MoveLemmas.{comes_first, higher_is_consistent, step_is_consistent}
 use Rattle.pcj_moves.proofs.OrderLemmas.{actor_goes_back, each_apart, each_together}
-use Rattle.pcj_choices.proofs.ClaimLemmas.{WritesOnly, claim_begins, claim_ends, claim_first, claim_goes_back, claim_here, claim_is_kept}
+use Rattle.pcj_choices.proofs.ClaimLemmas.{WritesOnly, claim_begins, claim_ends, claim_first, claim_goes_back, claim_here, claim_is_kept, plain_stays}
+use Rattle.pcj_nodes.specs.Commits.{HasWritten, IsPlainFrom}
+use Rattle.pcj_duties.proofs.WorkLemmas.{purposes_are_plans}
 use Rattle.pcj_fit.specs.Fit.{Fit}
 use Rattle.pcj_fit.specs.Laws.{BackIsSound, BeginIsSound, EndIsSound, FirstIsSound, FitGrows, FitIsSound, HigherIsSound, MoveIsSound, SoundIsFit, WritesClock, WritesLine, state_of}
 use Rattle.pcj_rows.specs.Rows.{Decodes, IsDecoded, IsVersionOf}
-use Rattle.pcj_fit.specs.Sound.{HasMetGranted, IsFrom, IsPlanned, MayWritePlain}
-use Rattle.pcj_fit.proofs.FitLemmas.{FitFrom, PlanFrom, fit_is_kept}
+use Rattle.pcj_fit.specs.Sound.{HasExported, HasMetGranted, IsFrom, IsPlanned, MayWritePlain}
+use Rattle.pcj_fit.proofs.FitLemmas.{FitFrom, PlanFrom, fit_is_kept, written_after}
 use Rattle.pcj_rows.proofs.OwnRowLemmas.{new_are_own, own_is_kept, own_under}
 use Rattle.pcj_rows.proofs.RowLemmas.{decodes_later, is_written, locked_row, to_versions, unwritten_versions}
 
 -- what is written of the clock is one of the plain values that may be written
 pub clock_line : (rows : Rows) (actor : Actor) (move : Move) → WritesClock move → WritesLine rows actor move
-clock_line rows actor (Plan writes) is = tt
+clock_line rows actor (Plan writes) is = λ registration cells named e. absurd (let clash = sym (is registration cells named) ∙ e in cc)
 clock_line rows actor (Prewrite write) is = tt
 clock_line rows actor (Draw commit) is = tt
 clock_line rows actor (CommitPrimary write commit) is = tt
@@ -112,15 +117,44 @@ met_after number rows actor (RollForward recovery commit) may decodes met = met
 met_after number rows actor EndRecovery may decodes met = tt
 met_after number rows actor (WritePlain key plain) may decodes met = met
 
+-- where a line was to be written it still stands
+exported_after : (rows : Rows) (actor : Actor) (move : Move) → WritesLine rows actor move → HasExported rows actor → HasExported (rows_after move actor rows) (actor_after move rows actor)
+exported_after rows actor (Plan writes) line exported = line
+exported_after rows actor (Prewrite write) line exported = written_after rows actor (Prewrite write) actor.start actor.transaction.writes tt exported
+exported_after rows actor (Draw commit) line exported = exported
+exported_after rows actor (CommitPrimary write commit) line exported = written_after rows actor (CommitPrimary write commit) actor.start actor.transaction.writes tt exported
+exported_after rows actor (CommitSecondary write commit) line exported = written_after rows actor (CommitSecondary write commit) actor.start actor.transaction.writes tt exported
+exported_after rows actor (CommitNothing commit) line exported = exported
+exported_after rows actor (Read answer) line exported = exported
+exported_after rows actor (Meet key lock) line exported = exported
+exported_after rows actor (Learn recovery) line exported = exported
+exported_after rows actor (DropPrimary recovery) line exported = written_after rows actor (DropPrimary recovery) actor.start actor.transaction.writes tt exported
+exported_after rows actor (RollBack recovery) line exported = written_after rows actor (RollBack recovery) actor.start actor.transaction.writes tt exported
+exported_after rows actor (RollForward recovery commit) line exported = written_after rows actor (RollForward recovery commit) actor.start actor.transaction.writes tt exported
+exported_after rows actor EndRecovery line exported = exported
+exported_after rows actor (WritePlain key plain) line exported = written_after rows actor (WritePlain key plain) actor.start actor.transaction.writes line exported
+
+others_exported : (rows : Rows) (actor : Actor) (move : Move) (others : List Actor) → WritesLine rows actor move → Each (HasExported rows) others → Each (HasExported (rows_after move actor rows)) others
+others_exported rows actor move [] line each = tt
+others_exported rows actor move (other ∷ others) line each =
+    (written_after rows actor move other.start other.transaction.writes (writes_only rows actor move line) each.0, others_exported rows actor move others line each.1)
+
+-- a choice leaves the plain values
+written_under : (choice : Choice) (rows : Rows) (start : ℕ) (writes : List Write) → HasWritten start writes rows → HasWritten start writes (under choice rows)
+written_under choice rows start writes written registration cells named is =
+    subst (IsPlainFrom start) (sym (plain_stays (choice (key_of (row.Export registration cells))) (rows (key_of (row.Export registration cells))))) (written registration cells named is)
+
 pub move_is_sound : MoveIsSound
 move_is_sound number rows actor others move may plains planned sound = record {
   consistent = move_is_consistent number rows actor others move may sound.consistent;
-  fit = λ choice is. (claim_is_kept (FitFrom sound.low) (PlanFrom sound.low) MayWritePlain (fit_is_kept sound.low) number rows actor others move (sound.planned.0, sound.later.0) may (writes_only rows actor move plains) sound.consistent
-      (λ choice is. (sound.fit choice is, own_under sound.low choice rows sound.own)) choice is).0;
+  fit = λ choice is. (claim_is_kept (FitFrom sound.low actor.start actor.transaction.writes) (PlanFrom sound.low actor.start actor.transaction.writes) MayWritePlain (fit_is_kept sound.low actor.start actor.transaction.writes) number rows actor others move
+      (sound.planned.0, sound.later.0, refl, refl) may (writes_only rows actor move plains) sound.consistent
+      (λ choice is. (sound.fit choice is, own_under sound.low choice rows sound.own, written_under choice rows actor.start actor.transaction.writes sound.exported.0)) choice is).0;
   planned = (planned, sound.planned.1);
+  exported = (exported_after rows actor move plains sound.exported.0, others_exported rows actor move others plains sound.exported.1);
   low = sound.low;
   since = let rise = numbers_rise number rows actor move may in let le = sound.since in omega (arith, rise, le);
-  own = own_is_kept sound.low number rows actor others move sound.planned.0 sound.consistent may sound.own;
+  own = own_is_kept sound.low number rows actor others move (purposes_are_plans actor.start actor.answers actor.transaction.writes sound.planned.0) sound.consistent may sound.own;
   later = (subst (λ start. (start ≡ 0) ⊎ (sound.low ≤ start)) (sym (same_start move rows actor)) sound.later.0, sound.later.1);
   met = (met_after number rows actor move may (claim_here (Fit number) (IsRipeAt rows (actor ∷ others)) rows sound.fit).decodes sound.met.0, sound.met.1);
 }
@@ -137,6 +171,7 @@ fit_grows number more rows le fit = record {
   atomic = fit.atomic;
   registered = fit.registered;
   origins = fit.origins;
+  kept = fit.kept;
 }
 
 pub higher_is_sound : HigherIsSound
@@ -144,6 +179,7 @@ higher_is_sound number more rows actors le sound = record {
   consistent = higher_is_consistent number more rows actors le sound.consistent;
   fit = λ choice is. fit_grows number more (under choice rows) le (sound.fit choice is);
   planned = sound.planned;
+  exported = sound.exported;
   low = sound.low;
   since = let since = sound.since in omega (arith, since, le);
   own = sound.own;
@@ -156,6 +192,7 @@ begin_is_sound number start rows actors le sound = record {
   consistent = step_is_consistent (state_of number rows actors) (Begins start) (state_of (suc start) rows (new_actor start ∷ actors)) sound.consistent (le, refl);
   fit = claim_begins (Fit (suc start)) rows start actors (λ choice is. fit_grows number (suc start) (under choice rows) (omega arith) (sound.fit choice is));
   planned = (inl refl, sound.planned);
+  exported = ((λ registration cells named e. absurd cc), sound.exported);
   low = sound.low;
   since = let since = sound.since in omega (arith, since, le);
   own = sound.own;
@@ -168,6 +205,7 @@ end_is_sound number rows actor others sound = record {
   consistent = step_is_consistent (state_of number rows (actor ∷ others)) (Ends [] actor others) (state_of number rows others) sound.consistent (refl, refl);
   fit = claim_ends (Fit number) rows actor others sound.fit;
   planned = sound.planned.1;
+  exported = sound.exported.1;
   low = sound.low;
   since = sound.since;
   own = sound.own;
@@ -180,6 +218,7 @@ first_is_sound number rows front actor back sound = record {
   consistent = comes_first number rows front actor back sound.consistent;
   fit = claim_first (Fit number) rows front actor back sound.fit;
   planned = each_apart IsPlanned front actor back sound.planned;
+  exported = each_apart (HasExported rows) front actor back sound.exported;
   low = sound.low;
   since = sound.since;
   own = sound.own;
@@ -200,6 +239,7 @@ back_is_sound number rows front actor back sound = record {
   };
   fit = claim_goes_back (Fit number) rows front actor back sound.fit;
   planned = each_together IsPlanned front actor back sound.planned.0 sound.planned.1;
+  exported = each_together (HasExported rows) front actor back sound.exported.0 sound.exported.1;
   low = sound.low;
   since = sound.since;
   own = sound.own;
@@ -242,6 +282,7 @@ fit_is_sound number rows fit = record {
   };
   fit = λ choice is. subst (Fit number) (sym (none choice is)) fit;
   planned = tt;
+  exported = tt;
   low = number;
   since = omega arith;
   own = new_are_own number rows fit.decodes;

@@ -10,7 +10,8 @@ use Rattle.pcj_moves.specs.Moves.{CommitNothing, CommitPrimary, CommitSecondary,
 use Rattle.pcj_choices.specs.UnderChoice.{is_primary_commit, is_steady}
 use Rattle.pcj_choices.proofs.ClaimLemmas.{Has, Purpose, steady_has}
 use Rattle.pcj_fit.specs.Laws.{AreSteady, StepAddsTriples, StepIsSound, StepLeavesTriples, WritesClock, state_of}
-use Rattle.pcj_rows.specs.Plans.{HasPlan, IsLoadPlan, IsRegisterPlan}
+use Rattle.pcj_duties.specs.Observers.{HasPurpose}
+use Rattle.pcj_rows.specs.Plans.{IsLoadPlan, IsRegisterPlan}
 use Rattle.pcj_fit.specs.Queries.{HasQueries, Registration, added}
 use Rattle.pcj_fit.specs.QueryLaws.{LoadStepLeavesQueries, RegisterStepLeavesTriples, StepAddsQuery, StepLeavesQueries, registration_of}
 use Rattle.pcj_fit.specs.Sound.{Sound}
@@ -21,7 +22,7 @@ use Rattle.pcj_fit.proofs.TripleLemmas.{found_are_there, loads_add_triples, move
 
 after_one : (number : ℕ) (rows : Rows) (actor : Actor) (others : List Actor) (move : Move) → is_steady move ≡ true → WritesClock move → IsAllowed move number rows actor → Sound (state_of number rows (actor ∷ others)) →
     Sound (state_of (number_after move number) (rows_after move actor rows) (actor_after move rows actor ∷ others))
-after_one number rows actor others move steady plains may sound = move_is_sound number rows actor others move may (clock_line rows actor move plains) (steady_has HasPlan move rows actor steady sound.planned.0) sound
+after_one number rows actor others move steady plains may sound = move_is_sound number rows actor others move may (clock_line rows actor move plains) (steady_has HasPurpose move rows actor steady sound.planned.0) sound
 
 pub step_is_sound : StepIsSound
 step_is_sound [] number rows actor number' rows' actor' others steady makes sound =

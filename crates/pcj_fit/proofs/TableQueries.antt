@@ -19,7 +19,8 @@ use Rattle.pcj_fit.specs.Queries.{Ascend, IsValidRegistration, Registration, Sta
 use Rattle.pcj_fit.specs.QueryLaws.{QueriesAreOne, TablesHaveQueries}
 use Rattle.pcj_rows.specs.Registrations.{registration_value}
 use Rattle.pcj_rows.proofs.EachLemmas.{each_of, of_each}
-use Rattle.pcj_fit.proofs.QueryLemmas.{all_added, ascend_added, in_added, known_added, new_added, one_put, one_value, same_registration}
+use Rattle.pcj_rows.proofs.ValueLemmas.{one_put, one_value}
+use Rattle.pcj_fit.proofs.QueryLemmas.{all_added, ascend_added, in_added, known_added, new_added, same_registration}
 use Rattle.pcj_rows.proofs.TableTriples.{found_here, has_row, nothing_stands}
 
 -- ---- the registration at a key

@@ -10,6 +10,7 @@ use Rattle.pcj_term.specs.Triple.{same_triple}
 use Rattle.pcj_table.specs.Row.{has_nothing, newest, versions_up_to}
 use Rattle.pcj_table.specs.Table.{Key}
 use Rattle.pcj_table.specs.declared.row.Row.{Row}
+use Rattle.pcj_encode.proofs.Names.{names_one_row}
 use Rattle.pcj_encode.specs.declared.order.Order.{Order}
 use Rattle.pcj_encode.specs.declared.order.Order.TheVariants.{Spo, Pos, Osp}
 use Rattle.pcj_encode.specs.declared.task_name.TaskName.TheVariants as task
@@ -26,6 +27,7 @@ use Rattle.pcj_moves.proofs.MoveLemmas.{empty_is_consistent}
 use Rattle.pcj_moves.proofs.StandingLemmas.{one_move_changes}
 use Rattle.pcj_moves.specs.Moves.{CommitPrimary, rows_after}
 use Rattle.pcj_choices.proofs.ClaimLemmas.{reads_the_same}
+use Rattle.pcj_kept.proofs.EmptyLemmas.{empty_is_kept}
 use Rattle.pcj_fit.specs.Laws.{ClockAloneIsFit, FoundAreThere, LoadsAddTriples, MovesLeaveTriples}
 use Rattle.pcj_rows.specs.Origins.{HasOrigin, IsAfter}
 use Rattle.pcj_rows.specs.Plans.{AreReadOf, IsLoadPlan, absent_of, load_writes}
@@ -184,6 +186,7 @@ clock_alone_is_fit number rows alone = (
       triples = λ triple valid. untasked (key_of (row.Task (task.Triple triple))) (triple_key Spo triple);
       backfills = λ registration node small small'. untasked (key_of (row.Task (task.Backfill registration node))) (key_of (row.Pattern registration node));
     };
+    kept = empty_is_kept rows (λ name named differs. alone.others (key_of name) (λ same. differs (names_one_row name row.Clock named tt same)));
   },
   record {
     valid = All-nil IsTriple;

@@ -10,6 +10,7 @@ use Rattle.pcj_rows.specs.Origins.{TasksHaveOrigins}
 use Rattle.pcj_rows.specs.Registrations.{RegistrationsStand}
 use Rattle.pcj_rows.specs.Rows.{Decodes}
 use Rattle.pcj_rows.specs.Triples.{AtomicRows}
+use Rattle.pcj_kept.specs.Kept.{Kept}
 
 -- no number is the commit of two starts, or both a start and a commit
 pub record NumbersApart (rows : Rows) : Type 0 where
@@ -19,7 +20,8 @@ pub record NumbersApart (rows : Rows) : Type 0 where
 -- Rows as a table may have them, where `next` is the first number that wasn't granted. Each row decodes. In each the
 -- versions ascend, a lock started after them, and each version's transaction started before it committed. Locks of one
 -- start name one primary, and versions of one start have one commit. The rows of a triple stand together, and so do those
--- of a registration. A task that stands was made for a row that does.
+-- of a registration. A task that stands was made for a row that does. The answers of registered queries are kept, as far as
+-- tasks are done.
 pub record Fit (next : ℕ) (rows : Rows) : Type 0 where
   pub decodes : Decodes next rows
   pub times : TimesInOrder rows
@@ -29,6 +31,7 @@ pub record Fit (next : ℕ) (rows : Rows) : Type 0 where
   pub atomic : AtomicRows rows
   pub registered : RegistrationsStand rows
   pub origins : TasksHaveOrigins rows
+  pub kept : Kept rows
 
 -- a table that is fit below its clock's number, which is from 1 to 2^48
 pub record FitTable (table : Table) : Type 0 where

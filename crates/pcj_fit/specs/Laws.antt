@@ -7,27 +7,31 @@ use Rattle.pcj_table.specs.declared.write.Write.{Write}
 use Rattle.pcj_oracle.specs.Clock.{clock_key}
 use Rattle.pcj_mvcc.specs.Reading.{Rows}
 use Rattle.pcj_moves.specs.Actors.{Actor, new_actor}
-use Rattle.pcj_moves.specs.Moves.{CommitPrimary, IsAllowed, Makes, Move, State, WritePlain, actor_after, number_after, rows_after}
+use Rattle.pcj_moves.specs.Moves.{CommitPrimary, IsAllowed, Makes, Move, Plan, State, WritePlain, actor_after, number_after, rows_after}
 use Rattle.pcj_choices.specs.UnderChoice.{is_primary_commit, is_steady}
 use Rattle.pcj_fit.specs.Fit.{Fit}
 use Rattle.pcj_rows.specs.Plans.{IsLoadPlan}
 use Rattle.pcj_rows.specs.Rows.{IsClockRow}
 use Rattle.pcj_fit.specs.Sound.{IsClockPlain, IsPlanned, MayWritePlain, Sound}
 use Rattle.pcj_rows.specs.Triples.{HasTriples}
+use Rattle.pcj_nodes.specs.Commits.{HasWritten}
+use Rattle.pcj_duties.specs.Observers.{EndsNoExport}
 
 abbrev pub state_of : ℕ → Rows → List Actor → State
 state_of number rows actors = record { number = number; rows = rows; actors = actors }
 
 -- ---- moves
 
--- a plain value that is written is the clock's
+-- a plain value that is written is the clock's, and no export's task is to be written
 abbrev pub WritesClock : Move → Type 0
 WritesClock (WritePlain key plain) = IsClockPlain key plain
+WritesClock (Plan writes) = EndsNoExport writes
 WritesClock _ = Unit {0}
 
--- or an exported line
+-- or an exported line, which stands before its task is to be ended
 abbrev pub WritesLine : Rows → Actor → Move → Type 0
 WritesLine rows actor (WritePlain key plain) = MayWritePlain actor.start actor.answers (rows key).plain key plain
+WritesLine rows actor (Plan writes) = HasWritten actor.start writes rows
 WritesLine rows actor _ = Unit {0}
 
 -- a move of one actor, whoever the others are

@@ -4,3 +4,4 @@ pub mod Sound
 pub mod Laws
 pub mod QueryLaws
 pub mod WorkLaws
+pub mod FinderLaws

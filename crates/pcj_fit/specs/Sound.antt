@@ -4,18 +4,24 @@ use Rattle.pcj_table.specs.Table.{Key}
 use Rattle.pcj_table.specs.declared.plain.Plain.{Plain}
 use Rattle.pcj_oracle.specs.Clock.{clock_key}
 use Rattle.pcj_mvcc.specs.Choices.{Choice, IsChoice, under}
+use Rattle.pcj_mvcc.specs.Reading.{Rows}
 use Rattle.pcj_moves.specs.declared.answer.Answer.{Answer}
 use Rattle.pcj_moves.specs.Actors.{Actor, Each}
 use Rattle.pcj_moves.specs.ChoiceLaws.{IsRipeAt}
 use Rattle.pcj_moves.specs.Moves.{IsConsistent, State}
 use Rattle.pcj_fit.specs.Fit.{Fit}
 use Rattle.pcj_rows.specs.OwnRows.{AreOwnFrom}
-use Rattle.pcj_rows.specs.Plans.{HasPlan}
 use Rattle.pcj_rows.specs.Workers.{IsExport}
+use Rattle.pcj_nodes.specs.Commits.{HasWritten}
+use Rattle.pcj_duties.specs.Observers.{HasPurpose}
 
--- the actor writes what its plan says
+-- the actor writes what it is at work for
 abbrev pub IsPlanned : Actor → Type 0
-IsPlanned actor = HasPlan actor.start actor.answers actor.transaction.writes
+IsPlanned actor = HasPurpose actor.start actor.answers actor.transaction.writes
+
+-- and where it ends an export's task it has written the line
+abbrev pub HasExported : Rows → Actor → Type 0
+HasExported rows actor = HasWritten actor.start actor.transaction.writes rows
 
 -- a plain value of the clock's row
 abbrev pub IsClockPlain : Key → Plain → Type 0
@@ -34,12 +40,13 @@ abbrev pub HasMetGranted : Actor → Type 0
 HasMetGranted actor = IfSome actor.recovery (λ recovery. 1 ≤ recovery.lock.start)
 
 -- All is as it has to be of each actor and of each two; the rows are fit whichever of the transactions that may be
--- committed next are committed; and each actor writes what its plan says. No actor started below `low`, and from it on a
+-- committed next are committed; and each actor writes what it is at work for. No actor started below `low`, and from it on a
 -- registration's row has nothing but what the transaction whose start is its number wrote there.
 pub record Sound (state : State) : Type 0 where
   pub consistent : IsConsistent state
   pub fit : (choice : Choice) → IsChoice (IsRipeAt state.rows state.actors) choice → Fit state.number (under choice state.rows)
   pub planned : Each IsPlanned state.actors
+  pub exported : Each (HasExported state.rows) state.actors
   pub low : ℕ
   pub since : low ≤ state.number
   pub own : AreOwnFrom low state.rows

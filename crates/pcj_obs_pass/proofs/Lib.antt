@@ -1,2 +1,2 @@
-mod CellLemmas
-mod NumberLemmas
+pub mod CellLemmas
+pub mod NumberLemmas

@@ -1,2 +1,2 @@
-mod AskLemmas
-mod RowLemmas
+pub mod AskLemmas
+pub mod RowLemmas

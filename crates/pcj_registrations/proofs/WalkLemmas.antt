@@ -35,7 +35,8 @@ use Rattle.pcj_fit.specs.Queries.{Ascend, HasQueries, IsValidRegistration, Stand
 use Rattle.pcj_rows.specs.Registrations.{registration_value}
 use Rattle.pcj_rows.specs.Rows.{HoldsVersions}
 use Rattle.pcj_rows.proofs.EachLemmas.{each_of, of_each}
-use Rattle.pcj_fit.proofs.QueryLemmas.{one_put, one_value, same_registration}
+use Rattle.pcj_rows.proofs.ValueLemmas.{one_put, one_value}
+use Rattle.pcj_fit.proofs.QueryLemmas.{same_registration}
 use Rattle.pcj_rows.proofs.RowLemmas.{row_of_name}
 use Rattle.pcj_pending.specs.Pending.{IsFit}
 use Rattle.pcj_pending.proofs.WalkLemmas.{one_fewer, seen_walk}
