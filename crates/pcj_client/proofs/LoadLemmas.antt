@@ -14,7 +14,13 @@ use Rattle.pcj_actor.specs.declared.event.ActorEvent.TheVariants as event
 use Rattle.pcj_actor.specs.declared.task.Task.{Task}
 use Rattle.pcj_actor.specs.declared.task.Task.TheVariants.{Rest, Get, Next, Put, Write as Writes}
 use Rattle.pcj_actor.specs.Progress.{Carries, IsOfStart, Progress, Tells, is_recovery, transaction_of}
+use Rattle.pcj_encode.specs.declared.task_name.TaskName.TheVariants as task_name
+use Rattle.pcj_encode.specs.declared.key_name.KeyName.TheVariants as row
+use Rattle.pcj_encode.specs.Name.{key_of}
+use Rattle.pcj_moves.specs.Transactions.{write_at}
 use Rattle.pcj_rows.specs.Plans.{IsLoadPlan}
+use Rattle.pcj_duties.specs.Observers.{EndsNoExport}
+use Rattle.pcj_duties.proofs.PurposeLemmas.{load_ends_none}
 use Rattle.pcj_fit.specs.Queries.{HasQueries, Registration}
 use Rattle.pcj_fit.specs.Sound.{IsPlanned, Sound}
 use Rattle.pcj_rows.specs.Triples.{HasTriples}
@@ -51,8 +57,22 @@ planned progress triples writes kept work = by progress.task refl work.task
     by (Put key plain) is at = absurd at
     by (Writes txn) is at = inr (inl (triples, plan_of progress triples writes kept txn work is))
 
+-- and no export's task is among its writes
+ends_none : (progress : Progress) (triples : List Triple) (writes : List Write) (kept : Option ℕ) → IsAtWork progress triples writes kept → EndsNoExport progress.actor.transaction.writes
+ends_none progress triples writes kept work = by progress.task refl work.task
+  where
+    nothing : (task : Task) → progress.task ≡ task → (transaction_of task).writes ≡ [] → EndsNoExport progress.actor.transaction.writes
+    nothing task is none registration cells named = ap (λ ws. write_at ws (key_of (row.Task (task_name.Export registration cells)))) (ap (λ t. t.writes) work.transaction ∙ ap (λ t. (transaction_of t).writes) is ∙ none)
+
+    by : (task : Task) → progress.task ≡ task → IsTask task progress.actor triples writes kept → EndsNoExport progress.actor.transaction.writes
+    by Rest is at = nothing Rest is refl
+    by (Get key) is at = nothing (Get key) is refl
+    by (Next range) is at = absurd at
+    by (Put key plain) is at = absurd at
+    by (Writes txn) is at = load_ends_none progress.actor.start progress.actor.answers progress.actor.transaction.writes triples (plan_of progress triples writes kept txn work is)
+
 pub loads_work : (progress : Progress) (triples : List Triple) (writes : List Write) (kept : Option ℕ) → IsAtWork progress triples writes kept → IsWorking progress
-loads_work progress triples writes kept work = record { transaction = work.transaction; quiet = by progress.task work.task; planned = planned progress triples writes kept work }
+loads_work progress triples writes kept work = record { transaction = work.transaction; quiet = by progress.task work.task; planned = planned progress triples writes kept work; ends_none = ends_none progress triples writes kept work }
   where
     by : (task : Task) → IsTask task progress.actor triples writes kept → IsQuiet task
     by Rest at = tt

@@ -23,6 +23,7 @@ use Rattle.pcj_actor.specs.declared.task.Task.TheVariants.{Write as Writes}
 use Rattle.pcj_actor.specs.Progress.{AreStepMoves, Carries, IsDrawing as ActorDraws, Progress, Tells, transaction_of, with_recovered, with_task}
 use Rattle.pcj_actor.proofs.ActorLemmas.{makes_then}
 use Rattle.pcj_fit.specs.Laws.{AreSteady}
+use Rattle.pcj_duties.specs.Observers.{EndsNoExport}
 use Rattle.pcj_fit.specs.Sound.{Sound}
 use Rattle.pcj_client.specs.Job.{Content, GoesOn, Job, job_of, writing_of}
 use Rattle.pcj_client.specs.Events.{HasMoved, IsDrawing, PrewritesOne, ReadsOne, StepsOn, WriteClockAlone}
@@ -34,17 +35,17 @@ clock_alone : (moves : List Move) → AreSteady moves → WriteClockAlone moves
 clock_alone [] steady = tt
 clock_alone (move ∷ moves) steady = (steady.1, clock_alone moves steady.2)
 
-then_plans : (moves : List Move) (writes : List Write) → WriteClockAlone moves → WriteClockAlone (moves ++ Plan writes ∷ [])
-then_plans [] writes clock = (tt, tt)
-then_plans (move ∷ moves) writes clock = (clock.0, then_plans moves writes clock.1)
+then_plans : (moves : List Move) (writes : List Write) → EndsNoExport writes → WriteClockAlone moves → WriteClockAlone (moves ++ Plan writes ∷ [])
+then_plans [] writes none clock = (none, tt)
+then_plans (move ∷ moves) writes none clock = (clock.0, then_plans moves writes none clock.1)
 
 -- a step that fails moves nothing
 pub nothing_moved : (job : Job) (oracle oracle' : Option Block) (table table' : Table) → Keeps oracle table oracle' table' → HasMoved job oracle table job oracle' table'
 nothing_moved job oracle oracle' table table' kept = record { moves = []; clock = tt; makes = (kept.next, ap row_at kept.same, refl) }
 
-pub step_moves : (before after done : Progress) (oracle oracle' : Option Block) (table table' : Table) (content : Content) → IsWorking before → Carries before oracle table after oracle' table' → GoesOn after done →
+pub step_moves : (before after done : Progress) (oracle oracle' : Option Block) (table table' : Table) (content : Content) → IsWorking before → Carries before oracle table after oracle' table' → GoesOn after done → IsWorking done →
     (others : List Actor) → Sound (state_of oracle table (before.actor ∷ others)) → HasMoved (job_of before content) oracle table (job_of done content) oracle' table'
-step_moves before after done oracle oracle' table table' content work carries goes others sound = by goes
+step_moves before after done oracle oracle' table table' content work carries goes end others sound = by goes
   where
     moved : (moves : List Move) × AreStepMoves before.task moves × Makes moves (next_number oracle table) (row_at table) before.actor (next_number oracle' table') (row_at table') after.actor
     moved = carries others (no_plain before (row_at table) work) sound.consistent
@@ -61,7 +62,7 @@ step_moves before after done oracle oracle' table table' content work carries go
     }
     by (inr begins) = record {
       moves = moved.0 ++ Plan begins.0 ∷ [];
-      clock = then_plans moved.0 begins.0 (clock moved.0 moved.1);
+      clock = then_plans moved.0 begins.0 (subst (λ (p : Progress). EndsNoExport p.actor.transaction.writes) begins.3 end.ends_none) (clock moved.0 moved.1);
       makes = makes_then moved.0 (Plan begins.0 ∷ []) (next_number oracle table) (row_at table) before.actor (next_number oracle' table') (row_at table') after.actor (next_number oracle' table') (row_at table') done.actor moved.2
           ((begins.1, begins.2), (refl, refl, ap (λ (p : Progress). p.actor) begins.3));
     }

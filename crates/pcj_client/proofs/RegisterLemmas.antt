@@ -25,6 +25,10 @@ use Rattle.pcj_actor.specs.declared.event.ActorEvent.TheVariants as event
 use Rattle.pcj_actor.specs.declared.task.Task.{Task}
 use Rattle.pcj_actor.specs.declared.task.Task.TheVariants.{Rest, Get, Next, Put, Write as Writes}
 use Rattle.pcj_actor.specs.Progress.{Carries, IsAnswerOf, IsOfStart, Progress, Tells, is_recovery, new_progress, transaction_of, with_held, with_recovered, with_task, with_txn}
+use Rattle.pcj_moves.specs.Transactions.{write_at}
+use Rattle.pcj_encode.specs.declared.task_name.TaskName.TheVariants as task_name
+use Rattle.pcj_duties.specs.Observers.{EndsNoExport}
+use Rattle.pcj_duties.proofs.PurposeLemmas.{register_ends_none}
 use Rattle.pcj_rows.specs.Plans.{IsRegisterPlan, registration_writes}
 use Rattle.pcj_fit.specs.Queries.{HasQueries, Registration, added}
 use Rattle.pcj_fit.specs.QueryLaws.{registration_of}
@@ -55,7 +59,7 @@ register_plan_of progress name tree writes txn work is = let at = subst (λ t. I
 }
 
 pub registers_work : (progress : Progress) (name : List ℕ) (tree : Tree) (writes : List Write) → IsRegistering progress name tree writes → IsWorking progress
-registers_work progress name tree writes work = record { transaction = work.transaction; quiet = quiet progress.task work.task; planned = planned progress.task refl work.task }
+registers_work progress name tree writes work = record { transaction = work.transaction; quiet = quiet progress.task work.task; planned = planned progress.task refl work.task; ends_none = ends_none progress.task refl work.task }
   where
     quiet : (task : Task) → IsRegisterTask task progress.actor name tree writes → IsQuiet task
     quiet Rest at = tt
@@ -73,6 +77,16 @@ registers_work progress name tree writes work = record { transaction = work.tran
     planned (Next range) is at = absurd at
     planned (Put key plain) is at = absurd at
     planned (Writes txn) is at = inr (inr (inl (name, tree, register_plan_of progress name tree writes txn work is)))
+
+    none_of : (task : Task) → progress.task ≡ task → (transaction_of task).writes ≡ [] → EndsNoExport progress.actor.transaction.writes
+    none_of task is none registration cells named = ap (λ ws. write_at ws (key_of (row.Task (task_name.Export registration cells)))) (ap (λ t. t.writes) work.transaction ∙ ap (λ t. (transaction_of t).writes) is ∙ none)
+
+    ends_none : (task : Task) → progress.task ≡ task → IsRegisterTask task progress.actor name tree writes → EndsNoExport progress.actor.transaction.writes
+    ends_none Rest is at = none_of Rest is refl
+    ends_none (Get key) is at = none_of (Get key) is refl
+    ends_none (Next range) is at = absurd at
+    ends_none (Put key plain) is at = absurd at
+    ends_none (Writes txn) is at = register_ends_none progress.actor.start progress.actor.answers progress.actor.transaction.writes name tree (register_plan_of progress name tree writes txn work is)
 
 -- ---- what the job is
 

@@ -22,7 +22,8 @@ use Rattle.pcj_actor.specs.Progress.{AreAllStepMoves, AreStepMoves, Carries, IsA
 use Rattle.pcj_actor.proofs.TxnLemmas.{none_due, primary_due}
 use Rattle.pcj_fit.specs.Laws.{AreSteady}
 use Rattle.pcj_fit.specs.Sound.{IsPlanned, Sound}
-use Rattle.pcj_fit.proofs.SoundLemmas.{move_is_sound}
+use Rattle.pcj_duties.specs.Observers.{EndsNoExport}
+use Rattle.pcj_fit.proofs.SoundLemmas.{clock_line, move_is_sound}
 use Rattle.pcj_fit.proofs.StepLemmas.{step_is_sound}
 use Rattle.pcj_client.specs.Job.{Content, GoesOn, Job, Loads, job_of, writing_of}
 use Rattle.pcj_client.specs.Events.{CommitsOnce, IsTold, event_of, job_calls, job_event, writing_calls}
@@ -44,6 +45,7 @@ pub record IsWorking (progress : Progress) : Type 0 where
   pub transaction : progress.actor.transaction ≡ transaction_of progress.task
   pub quiet : IsQuiet progress.task
   pub planned : IsPlanned progress.actor
+  pub ends_none : EndsNoExport progress.actor.transaction.writes
 
 nothing_read : (task : Task) → IsReading task → (transaction_of task).writes ≡ []
 nothing_read Rest reading = absurd reading
@@ -117,7 +119,8 @@ step_keeps_sound before after done oracle oracle' table table' work carries goes
     by : GoesOn after done → Sound (state_of oracle' table' (done.actor ∷ others))
     by (inl same) = subst (λ (p : Progress). Sound (state_of oracle' table' (p.actor ∷ others))) (sym same) here
     by (inr begins) = subst (λ (p : Progress). Sound (state_of oracle' table' (p.actor ∷ others))) (sym begins.3)
-        (move_is_sound (next_number oracle' table') (row_at table') after.actor others (Plan begins.0) (begins.1, begins.2) tt
+        (move_is_sound (next_number oracle' table') (row_at table') after.actor others (Plan begins.0) (begins.1, begins.2)
+        (clock_line (row_at table') after.actor (Plan begins.0) (subst (λ (p : Progress). EndsNoExport p.actor.transaction.writes) begins.3 end.ends_none))
         (subst (λ (p : Progress). IsPlanned p.actor) begins.3 end.planned) here)
 
 -- ---- what is committed

@@ -80,7 +80,9 @@ returns-clause-moves g c others sound =
     let at : IsAtWork c.ask.new.actor c.self.inside.triples c.ask.new.writes.items c.ask.new.kept = subst (λ (ts : List Triple). IsAtWork c.ask.new.actor ts c.ask.new.writes.items c.ask.new.kept) c.as_slice.ensures c.ask.ensures.work in
     subst (λ (j : Job). HasMoved j c.args.oracle.now (g.T.RowTable.rows c.args.table.now) (job_of c.take_in.new.actor (Loads c.self.inside.triples)) c.step.new.oracle (g.T.RowTable.rows c.step.new.table))
     (asks_nothing c.self.inside.actor c.ask.new.actor (Loads c.self.inside.triples) c.args.self.now c.ask.ensures.actor c.ask.ensures.writing c.ask.ensures.locked c.self.view_is)
-    (step_moves c.ask.new.actor c.step.new.self c.take_in.new.actor c.args.oracle.now c.step.new.oracle (g.T.RowTable.rows c.args.table.now) (g.T.RowTable.rows c.step.new.table) (Loads c.self.inside.triples) (loads_work c.ask.new.actor c.self.inside.triples c.ask.new.writes.items c.ask.new.kept at) ((c.in_ok-event.ensures {u = tt}).moves) c.take_in.ensures.goes_on others
+    (step_moves c.ask.new.actor c.step.new.self c.take_in.new.actor c.args.oracle.now c.step.new.oracle (g.T.RowTable.rows c.args.table.now) (g.T.RowTable.rows c.step.new.table) (Loads c.self.inside.triples) (loads_work c.ask.new.actor c.self.inside.triples c.ask.new.writes.items c.ask.new.kept at) ((c.in_ok-event.ensures {u = tt}).moves) c.take_in.ensures.goes_on
+    (loads_work c.take_in.new.actor c.self.inside.triples c.take_in.new.writes.items c.take_in.new.kept
+    (subst (λ (ts : List Triple). IsAtWork c.take_in.new.actor ts c.take_in.new.writes.items c.take_in.new.kept) c.as_slice-2.ensures c.take_in.ensures.work)) others
     (subst (λ (a : Actor). Sound (state_of c.args.oracle.now (g.T.RowTable.rows c.args.table.now) (a ∷ others))) (sym (ap (λ (j : Job). j.actor) c.self.view_is) ∙ sym c.ask.ensures.actor) sound))
 
 pub returns-in_err-ask-clause-moves : goal.returns-in_err-ask-clause-moves

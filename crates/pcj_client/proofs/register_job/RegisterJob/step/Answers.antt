@@ -65,7 +65,8 @@ pub returns-clause-moves : goal.returns-clause-moves
 returns-clause-moves g c others sound =
     subst (λ (j : Job). HasMoved j c.args.oracle.now (g.T.RowTable.rows c.args.table.now) (job_of c.take_in.new.actor (Registers c.self.inside.name c.self.inside.tree)) c.step.new.oracle (g.T.RowTable.rows c.step.new.table)) c.self.view_is
     (step_moves c.self.inside.actor c.step.new.self c.take_in.new.actor c.args.oracle.now c.step.new.oracle (g.T.RowTable.rows c.args.table.now) (g.T.RowTable.rows c.step.new.table) (Registers c.self.inside.name c.self.inside.tree) (registers_work c.self.inside.actor c.self.inside.name c.self.inside.tree c.self.inside.writes c.self.invariant) ((c.in_ok-event.ensures {u = tt}).moves)
-    (subst (λ p. GoesOn c.step.new.self p) (sym c.take_in.ensures.actor) (goes_on_begun c.in_ok-event.event c.step.new.self c.self.inside.writes (may_begin c.self.inside.actor c.step.new.self c.args.oracle.now c.step.new.oracle (g.T.RowTable.rows c.args.table.now) (g.T.RowTable.rows c.step.new.table) c.in_ok-event.event c.self.inside.name c.self.inside.tree c.self.inside.writes c.self.invariant ((c.in_ok-event.ensures {u = tt}).tells)))) others
+    (subst (λ p. GoesOn c.step.new.self p) (sym c.take_in.ensures.actor) (goes_on_begun c.in_ok-event.event c.step.new.self c.self.inside.writes (may_begin c.self.inside.actor c.step.new.self c.args.oracle.now c.step.new.oracle (g.T.RowTable.rows c.args.table.now) (g.T.RowTable.rows c.step.new.table) c.in_ok-event.event c.self.inside.name c.self.inside.tree c.self.inside.writes c.self.invariant ((c.in_ok-event.ensures {u = tt}).tells))))
+    (registers_work c.take_in.new.actor c.self.inside.name c.self.inside.tree c.take_in.new.writes (registers_on c.self.inside.actor c.step.new.self c.take_in.new.actor c.args.oracle.now c.step.new.oracle (g.T.RowTable.rows c.args.table.now) (g.T.RowTable.rows c.step.new.table) c.in_ok-event.event c.self.inside.name c.self.inside.tree c.self.inside.writes c.take_in.new.writes c.self.invariant ((c.in_ok-event.ensures {u = tt}).tells) c.take_in.ensures.actor c.take_in.ensures.writes)) others
     (subst (λ (a : Actor). Sound (state_of c.args.oracle.now (g.T.RowTable.rows c.args.table.now) (a ∷ others))) (sym (ap (λ (j : Job). j.actor) c.self.view_is)) sound))
 
 pub returns-in_err-event-clause-moves : goal.returns-in_err-event-clause-moves
