@@ -1,0 +1,3 @@
+pub mod TreeLemmas
+pub mod TrueLemmas
+pub mod QuietLemmas
