@@ -1,0 +1,10 @@
+pub mod ReadLemmas
+pub mod RegistrationLemmas
+pub mod AskLemmas
+pub mod PassLemmas
+pub mod DecisionLemmas
+pub mod DecodeLemmas
+pub mod NodeLemmas
+pub mod RangeLemmas
+pub mod PatternLemmas
+pub mod CursorLemmas
